@@ -1,0 +1,14 @@
+-- What a reader must believe, in the order of docs/SPECIFICATION.md.
+pub mod Limits
+pub mod Lists
+pub mod Vector
+pub mod Lattice
+pub mod Group
+pub mod Orbit
+pub mod Completion
+pub mod Split
+pub mod Lent
+pub mod Refusals
+pub mod Calls
+pub mod Demands
+pub mod Samples

@@ -1,0 +1,42 @@
+-- Specification 6: the limits, each named once. Assumes nothing.
+use Prim.Native.Nat.{ℕ}
+
+-- the cells of an array; an order has at most so many
+abbrev pub cells : ℕ
+cells = 16
+
+-- 7, 12 and 17: the greatest absolute value of an entry that is sent, stored or brought
+abbrev pub entryLimit : ℕ
+entryLimit = 10_000
+
+-- 10: the greatest order of a group
+abbrev pub groupLimit : ℕ
+groupLimit = 1_152
+
+-- 13: the most list rows in use; 6: the most rows that a Check takes
+abbrev pub listLimit : ℕ
+listLimit = 128
+
+-- 6: the most generators
+abbrev pub generatorLimit : ℕ
+generatorLimit = 64
+
+-- 6: the most exchanges
+abbrev pub exchangeLimit : ℕ
+exchangeLimit = 8
+
+-- 14: the greatest absolute value of an entry of a vector to split
+abbrev pub splitLimit : ℕ
+splitLimit = 1_000_000
+
+-- 19: the greatest absolute value of a coefficient
+abbrev pub coefficientLimit : ℕ
+coefficientLimit = 1_000_000
+
+-- the numbers that a piece takes in the pieces area
+abbrev pub pieceWidth : ℕ
+pieceWidth = 4
+
+-- the pieces for which programs and C calls lend room
+abbrev pub lentPieces : ℕ
+lentPieces = 64

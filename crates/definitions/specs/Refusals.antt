@@ -1,0 +1,158 @@
+-- Specification 7: the table of refusals, for lent calls. 12 and 13 are in Completion. Assumes nothing.
+use mathlib.Core.Bool.{Bool, true, false, _&&_, _||_, not}
+use mathlib.Core.List.{List, [], _∷_}
+use Prim.Native.Nat.{ℕ, zero, suc, _+_, _*_, _/_}
+use lib.IntN.{ℤ, pos, natAbs}
+use lib.Dec.{leb, eqb}
+use lib.ListN.{length, getD}
+use Rattle.definitions.specs.declared.Fault.{Fault}
+use Rattle.definitions.specs.declared.Fault.the-variants.{None, At}
+use Rattle.definitions.specs.Limits.{cells, entryLimit, listLimit, generatorLimit, exchangeLimit, splitLimit, coefficientLimit, pieceWidth}
+use Rattle.definitions.specs.Lists.{if_then_else_, any}
+use Rattle.definitions.specs.Vector.{Vector, negative, within, isZero, equal, isMember}
+use Rattle.definitions.specs.Lattice.{combination}
+use Rattle.definitions.specs.Group.{Exchange, isExchange, exchanged}
+use Rattle.definitions.specs.Orbit.{representative, precedes}
+use Rattle.definitions.specs.Completion.{State, firstState, sumAt, next, isFinished, remainder, hasOtherBelow, sumCount}
+use Rattle.definitions.specs.Split.{Splitting}
+use Rattle.definitions.specs.Lent.{wholeRows, wholeRowsUpTo, chunks, Order, generatorsOf, exchangesOf, groupRows, tableOf}
+
+-- ---- 7.1: how tests are run
+
+-- the first test that is met
+unfoldable pub firstFault : List Fault → Fault
+firstFault [] = None
+firstFault (None ∷ faults) = firstFault faults
+firstFault (At number place ∷ faults) = At number place
+
+-- a test whose place is 0
+unfoldable pub faultIf : (number : ℕ) (met : Bool) → Fault
+faultIf number met = if met then At number 0 else None
+
+-- the first place where the test is met, of `count` from `place` on
+unfoldable pub faultFrom : (number place count : ℕ) (met : ℕ → Bool) → Fault
+faultFrom number place zero met = None
+faultFrom number place (suc count) met =
+    let rest = faultFrom number (suc place) count met in
+    if met place then At number place else rest
+
+-- .. of `count` from 0 on
+unfoldable pub faultWhere : (number count : ℕ) (met : ℕ → Bool) → Fault
+faultWhere number count met = faultFrom number 0 count met
+
+-- what a call finds, or the number and the place of its refusal
+pub data Outcome (A : Type 0) : Type 0 where
+  accepted : A → Outcome A
+  refused : (number place : ℕ) → Outcome A
+
+-- the outcome, unless a test was met before it
+unfoldable pub unlessFault : {A : Type 0} → Fault → Outcome A → Outcome A
+unlessFault None outcome = outcome
+unlessFault (At number place) outcome = refused number place
+
+-- ---- 7.3, size: 5 and 6
+
+unfoldable pub cellsFault : (n : ℕ) → Fault
+cellsFault n = faultIf 5 (not (leb 1 n && leb n cells))
+
+-- the generators and the exchanges are whole rows, not too many
+unfoldable pub orderFits : Order → Bool
+orderFits order =
+    wholeRowsUpTo generatorLimit (order .n) (length (order .generators))
+    && wholeRowsUpTo exchangeLimit (order .n) (length (order .exchanges))
+
+-- of a List: also the list area and the group area
+unfoldable pub listSizeFault : Order → (listSize groupSize : ℕ) → Fault
+listSizeFault order listSize groupSize =
+    faultIf 6 (not (orderFits order && wholeRows (order .n) listSize && wholeRows (order .n) groupSize))
+
+-- what a Split adds: the vector has exactly n numbers, the pieces area whole rows
+unfoldable pub splitSizeFault : (n : ℕ) (vector : List ℤ) (piecesSize : ℕ) → Fault
+splitSizeFault n vector piecesSize = faultIf 6 (not (eqb (length vector) n && wholeRows pieceWidth piecesSize))
+
+-- of a Check: also the group area, the brought rows, and one coefficient for each row and generator
+unfoldable pub checkSizeFault : Order → (rows coefficients : List ℤ) (groupSize : ℕ) → Fault
+checkSizeFault order rows coefficients groupSize =
+    faultIf 6
+    (not
+    (orderFits order && wholeRows (order .n) groupSize && wholeRowsUpTo listLimit (order .n) (length rows)
+    && eqb (length coefficients) (length rows / order .n * (length (order .generators) / order .n))))
+
+-- ---- 7.2, generators and exchanges: 7 to 11
+
+unfoldable pub isPast : (limit : ℕ) → ℤ → Bool
+isPast limit x = not (leb (natAbs x) limit)
+
+-- v is a generator or the negative of one
+unfoldable pub isGenerator : (generators : List Vector) → Vector → Bool
+isGenerator generators v = isMember v generators || isMember (negative v) generators
+
+-- some sent exchange takes v to no generator nor a negative of one
+unfoldable pub leavesGenerators : (generators : List Vector) (sent : List Exchange) → Vector → Bool
+leavesGenerators generators sent v = any (λ s. not (isGenerator generators (exchanged s v))) sent
+
+unfoldable pub orderFault : Order → (groupSize : ℕ) → Fault
+orderFault order groupSize =
+    let generators = generatorsOf order in
+    let sent = exchangesOf order in
+    firstFault
+    (faultWhere 7 (length (order .generators)) (λ p. isPast entryLimit (getD (order .generators) p (pos 0)))
+    ∷ faultWhere 8 (length generators) (λ p. isZero (getD generators p []))
+    ∷ faultWhere 9 (length sent) (λ p. not (isExchange (order .n) (getD sent p [])))
+    ∷ faultIf 10 (not (leb (length (tableOf order groupSize)) (groupRows (order .n) groupSize)))
+    ∷ faultWhere 11 (length generators) (λ p. leavesGenerators generators sent (getD generators p []))
+    ∷ [])
+
+-- ---- 7.2, split: 14 to 16
+
+unfoldable pub splitFault : (vector : List ℤ) (piecesSize : ℕ) → Splitting → Fault
+splitFault vector piecesSize taken =
+    firstFault
+    (faultWhere 14 (length vector) (λ p. isPast splitLimit (getD vector p (pos 0)))
+    ∷ faultIf 15 (not (isZero (taken .rest)))
+    ∷ faultIf 16 (not (leb (length (taken .pieces)) (piecesSize / pieceWidth)))
+    ∷ [])
+
+-- ---- 7.2, check: 17 to 22
+
+-- 17: the row is zero, has an entry past the limit, or is not the row of its kind
+unfoldable pub isUnfit : (table : List Exchange) → Vector → Bool
+isUnfit table row = isZero row || not (within entryLimit row) || not (equal row (representative table row))
+
+-- 18: row r does not come after the row before it
+unfoldable pub isMisplaced : (rows : List Vector) (r : ℕ) → Bool
+isMisplaced rows zero = false
+isMisplaced rows (suc r) = not (precedes (getD rows r []) (getD rows (suc r) []))
+
+-- 19: a coefficient is past its limit, or the combination is not the row
+unfoldable pub isUncertified : (generators : List Vector) (coefficients : List ℤ) → Vector → Bool
+isUncertified generators coefficients row =
+    any (isPast coefficientLimit) coefficients || not (equal (combination coefficients generators) row)
+
+-- 17 to 19
+unfoldable pub rowsFault : (table : List Exchange) (generators rows : List Vector) (coefficients : List ℤ) → Fault
+rowsFault table generators rows coefficients =
+    let certificates = chunks (length generators) (length rows) coefficients in
+    firstFault
+    (faultWhere 17 (length rows) (λ r. isUnfit table (getD rows r []))
+    ∷ faultWhere 18 (length rows) (isMisplaced rows)
+    ∷ faultWhere 19 (length rows) (λ r. isUncertified generators (getD certificates r []) (getD rows r []))
+    ∷ [])
+
+-- 21: the sums of step 2 over the brought rows, from the state on, up to `fuel` of them
+unfoldable pub sumsFault : (table : List Exchange) (fuel : ℕ) → State → Fault
+sumsFault table zero s = None
+sumsFault table (suc fuel) s =
+    let rest = sumsFault table fuel (next (length table) (s .rows) s) in
+    if isFinished s then None
+    else if isZero (remainder table (s .rows) (sumAt table s)) then rest
+    else At 21 (s .sums + 1)
+
+-- 20 to 22
+unfoldable pub wholenessFault : (table : List Exchange) (generators rows : List Vector) → Fault
+wholenessFault table generators rows =
+    firstFault
+    (faultWhere 20 (length generators) (λ p. not (isZero (remainder table rows (getD generators p []))))
+    ∷ sumsFault table (sumCount (length table) (length rows)) (firstState rows)
+    ∷ faultWhere 22 (length rows) (hasOtherBelow table rows)
+    ∷ [])
