@@ -1,0 +1,9 @@
+pub mod Cell
+pub mod Vector
+pub mod Below
+pub mod Members
+pub mod Conformal
+pub mod Lattice
+pub mod FiniteTest
+pub mod Reduction
+pub mod Complete

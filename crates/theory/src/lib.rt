@@ -1,0 +1,1 @@
+// The mathematics of the definitions: lemma files in proofs/, no code.
