@@ -7,3 +7,11 @@ pub mod Lattice
 pub mod FiniteTest
 pub mod Reduction
 pub mod Complete
+pub mod Lex
+pub mod Action
+pub mod Counting
+pub mod Steps
+pub mod Places
+pub mod Faults
+pub mod Times
+pub mod Areas

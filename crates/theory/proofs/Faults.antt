@@ -1,0 +1,87 @@
+-- Laws of the tests, as a loop over places uses them: at place i the loop's invariant is that what is left, `faultFrom number i (count - i) met`, is the whole test.
+-- Assumes nothing.
+use mathlib.Core.Path.{_≡_, refl, sym, _∙_, ap, subst}
+use mathlib.Core.Logic.{_↔_}
+use mathlib.Core.Bool.{Bool, true, false, cond}
+use mathlib.Core.List.{List, _∷_}
+use Prim.Native.Nat.{ℕ, zero, suc, _+_, _-_, _≤_, _<_}
+use native.Mathlib.Numerals.{add-one}
+use native.Mathlib.Omega.{arith}
+use native.Mathlib.Decide.{ℕ-discrete}
+use Rattle.definitions.specs.declared.Fault.{Fault}
+use Rattle.definitions.specs.declared.Fault.the-variants.{None, At}
+use Rattle.definitions.specs.Refusals.{faultFrom, faultWhere, firstFault}
+use Rattle.theory.proofs.Cell.{same}
+
+-- one more place is left
+left-more : {i count : ℕ} → i < count → count - i ≡ suc (count - (i + 1))
+left-more h = omega arith
+
+-- the test is not met at place i: on to the next
+pub fault-next : (number i count : ℕ) (met : ℕ → Bool) → i < count → met i ≡ false → faultFrom number i (count - i) met ≡ faultFrom number (i + 1) (count - (i + 1)) met
+unfolding faultFrom
+fault-next number i count met h e =
+    ap (λ (k : ℕ). faultFrom number i k met) (left-more h) ∙ ap (λ (b : Bool). cond b (At number i) (faultFrom number (suc i) (count - (i + 1)) met)) e
+    ∙ ap (λ (k : ℕ). faultFrom number k (count - (i + 1)) met) (sym (add-one i))
+
+-- it is met
+pub fault-here : (number i count : ℕ) (met : ℕ → Bool) → i < count → met i ≡ true → faultFrom number i (count - i) met ≡ At number i
+unfolding faultFrom
+fault-here number i count met h e =
+    ap (λ (k : ℕ). faultFrom number i k met) (left-more h) ∙ ap (λ (b : Bool). cond b (At number i) (faultFrom number (suc i) (count - (i + 1)) met)) e
+
+-- no place is left
+pub fault-end : (number i count : ℕ) (met : ℕ → Bool) → count ≤ i → faultFrom number i (count - i) met ≡ None
+unfolding faultFrom
+fault-end number i count met h = ap (λ (k : ℕ). faultFrom number i k met) (none-left h)
+  where
+    none-left : count ≤ i → count - i ≡ 0
+    none-left h = omega arith
+
+-- the whole test, at the start of the loop
+pub fault-start : (number count : ℕ) (met : ℕ → Bool) → faultFrom number 0 (count - 0) met ≡ faultWhere number count met
+unfolding faultWhere
+fault-start number count met = ap (λ (k : ℕ). faultFrom number 0 k met) (all count)
+  where
+    all : (count : ℕ) → count - 0 ≡ count
+    all count = omega arith
+
+-- a list of tests: the first is not met, or it is
+pub first-next : (faults : List Fault) → firstFault (None ∷ faults) ≡ firstFault faults
+unfolding firstFault
+first-next faults = refl
+
+pub first-here : (number place : ℕ) (faults : List Fault) → firstFault (At number place ∷ faults) ≡ At number place
+unfolding firstFault
+first-here number place faults = refl
+
+-- ---- a test that is not met
+
+IsAt : Fault → Type 0
+IsAt None = ⊥
+IsAt (At number place) = Unit {0}
+
+from-none : (number place count : ℕ) (met : ℕ → Bool) → faultFrom number place count met ≡ None → (p : ℕ) → place ≤ p → p < place + count → met p ≡ false
+unfolding faultFrom IsAt
+from-none number place zero met e p h k = absurd (omega arith)
+from-none number place (suc count) met e p h k = go (met place) refl e (λ n x. from-none number (suc place) count met n p x (omega arith)) (ℕ-discrete p place)
+  where
+    go : (b : Bool) → met place ≡ b → cond b (At number place) (faultFrom number (suc place) count met) ≡ None → (faultFrom number (suc place) count met ≡ None → suc place ≤ p → met p ≡ false) → Dec (p ≡ place) → met p ≡ false
+    go true q n ih d = absurd (subst IsAt n tt)
+    go false q n ih (yes same) = ap met same ∙ q
+    go false q n ih (no other) = ih n (omega (arith, other))
+
+none-from : (number place count : ℕ) (met : ℕ → Bool) → ((p : ℕ) → place ≤ p → p < place + count → met p ≡ false) → faultFrom number place count met ≡ None
+unfolding faultFrom
+none-from number place zero met f = refl
+none-from number place (suc count) met f =
+    ap (λ (b : Bool). cond b (At number place) (faultFrom number (suc place) count met)) (f place (omega arith) (omega arith))
+    ∙ none-from number (suc place) count met (λ p h k. f p (omega arith) (omega arith))
+
+-- a test is passed exactly when it is met at no place
+pub where-none : (number count : ℕ) (met : ℕ → Bool) → (faultWhere number count met ≡ None) ↔ ((p : ℕ) → p < count → met p ≡ false)
+unfolding faultWhere
+where-none number count met = (
+  λ e p h. from-none number 0 count met e p (omega arith) (omega arith),
+  λ f. none-from number 0 count met (λ p h k. f p (omega arith)),
+)
