@@ -1,0 +1,43 @@
+-- Tests, as facts. Assumes nothing.
+use mathlib.Core.Path.{_≡_, refl, sym, _∙_}
+use mathlib.Core.Logic.{_⊎_, inl, inr}
+use mathlib.Core.Bool.{Bool, true, false, _&&_, _||_, true≢false}
+use Prim.Native.Nat.{ℕ, _<_}
+use native.Mathlib.Omega.{arith}
+use native.Mathlib.Decide.{decLt}
+
+-- a test is true or false, with the equation
+pub bool-cases : (b : Bool) → (b ≡ true) ⊎ (b ≡ false)
+bool-cases true = inl refl
+bool-cases false = inr refl
+
+-- no test is both
+pub clash {ℓ} : {X : Type ℓ} {b : Bool} → b ≡ true → b ≡ false → X
+clash p q = absurd (true≢false (sym p ∙ q))
+
+-- what a conjunction that holds says
+pub and-left : (a b : Bool) → (a && b) ≡ true → a ≡ true
+and-left true b e = refl
+and-left false b e = e
+
+pub and-right : (a b : Bool) → (a && b) ≡ true → b ≡ true
+and-right true b e = e
+and-right false b e = absurd (true≢false (sym e))
+
+-- what a disjunction that fails says
+pub or-left : (a b : Bool) → (a || b) ≡ false → a ≡ false
+or-left true b e = e
+or-left false b e = refl
+
+pub or-right : (a b : Bool) → (a || b) ≡ false → b ≡ false
+or-right true b e = absurd (true≢false e)
+or-right false b e = e
+
+-- two numbers are in one of three orders
+pub order-cases : (x y : ℕ) → (x < y) ⊎ ((x ≡ y) ⊎ (y < x))
+order-cases x y = go (decLt x y) (decLt y x)
+  where
+    go : Dec (x < y) → Dec (y < x) → (x < y) ⊎ ((x ≡ y) ⊎ (y < x))
+    go (yes p) d = inl p
+    go (no p) (yes q) = inr (inr q)
+    go (no p) (no q) = inr (inl (omega arith))
