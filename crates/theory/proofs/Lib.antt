@@ -15,6 +15,7 @@ pub mod Closure
 pub mod Exchanges
 pub mod GroupTable
 pub mod Action
+pub mod Images
 pub mod Counting
 pub mod Steps
 pub mod Places
