@@ -16,6 +16,7 @@ pub mod Exchanges
 pub mod GroupTable
 pub mod Action
 pub mod Images
+pub mod Symmetric
 pub mod Counting
 pub mod Steps
 pub mod Places
