@@ -17,6 +17,7 @@ pub mod GroupTable
 pub mod Action
 pub mod Images
 pub mod Symmetric
+pub mod Bounds
 pub mod Counting
 pub mod Steps
 pub mod Places

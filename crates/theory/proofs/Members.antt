@@ -1,11 +1,14 @@
 -- What holds of each member of a list, lists with no member twice, and the places of members.
 -- Assumes nothing.
-use mathlib.Core.Path.{_≡_, refl, sym, ap, subst}
+use mathlib.Core.Path.{_≡_, refl, sym, _∙_, ap, subst}
 use mathlib.Core.Logic.{_⊎_, inl, inr}
+use mathlib.Core.Bool.{Bool, true, false, cond, _&&_, _||_, true≢false}
 use mathlib.Core.List.{List, [], _∷_, _++_, map, List·Memᴰ, List·Memᴰ·head, List·Memᴰ·tail, List·Memᴰ·not-nil, List·Memᴰ·cases-cons, List·Memᴰ·append-cases, List·Memᴰ·eq-of-singleton, Memᴰ·cast}
 use Prim.Native.Nat.{ℕ, zero, suc, _<_}
 use native.Mathlib.Omega.{arith}
 use lib.ListN.{length, getD, take, drop}
+use Rattle.definitions.specs.Lists.{any, every, select}
+use Rattle.theory.proofs.Lists.{map-inv}
 
 -- P holds of each member of a list
 pub data Each {A : Type 0} (P : A → Type 0) : List A → Type 0 where
@@ -102,3 +105,76 @@ module _ {A : Type 0} (d : A) where
   to-others (y ∷ xs) zero (suc i) l ne = place-member xs d i (omega arith)
   to-others (y ∷ xs) (suc r) zero l ne = List·Memᴰ·head refl
   to-others (y ∷ xs) (suc r) (suc i) l ne = List·Memᴰ·tail (to-others xs r i (omega arith) (λ e. ne (ap suc e)))
+
+-- ---- tests over a list
+module _ {A : Type 0} (test : A → Bool) where
+  pub every-each : (xs : List A) → every test xs ≡ true → Each (λ x. test x ≡ true) xs
+  unfolding every
+  every-each [] e = each-nil
+  every-each (x ∷ xs) e = go (test x) refl e (λ f. every-each xs f)
+    where
+      go : (b : Bool) → test x ≡ b → (b && every test xs) ≡ true → (every test xs ≡ true → Each (λ y. test y ≡ true) xs) → Each (λ y. test y ≡ true) (x ∷ xs)
+      go true q f again = each-cons q (again f)
+      go false q f again = absurd (true≢false (sym f))
+
+  pub each-every : {xs : List A} → Each (λ x. test x ≡ true) xs → every test xs ≡ true
+  unfolding every
+  each-every each-nil = refl
+  each-every (each-cons {x = x} {xs = xs} q h) = ap (λ (b : Bool). b && every test xs) q ∙ each-every h
+
+  pub any-none : (xs : List A) → any test xs ≡ false → Each (λ x. test x ≡ false) xs
+  unfolding any
+  any-none [] e = each-nil
+  any-none (x ∷ xs) e = go (test x) refl e (λ f. any-none xs f)
+    where
+      go : (b : Bool) → test x ≡ b → (b || any test xs) ≡ false → (any test xs ≡ false → Each (λ y. test y ≡ false) xs) → Each (λ y. test y ≡ false) (x ∷ xs)
+      go true q f again = absurd (true≢false f)
+      go false q f again = each-cons q (again f)
+
+  pub none-any : {xs : List A} → Each (λ x. test x ≡ false) xs → any test xs ≡ false
+  unfolding any
+  none-any each-nil = refl
+  none-any (each-cons {x = x} {xs = xs} q h) = ap (λ (b : Bool). b || any test xs) q ∙ none-any h
+
+  -- the members for which the test holds
+  pub of-select : (xs : List A) (y : A) → List·Memᴰ y (select test xs) → List·Memᴰ y xs × (test y ≡ true)
+  unfolding select
+  of-select [] y k = absurd (List·Memᴰ·not-nil k)
+  of-select (x ∷ xs) y k = go (test x) refl k (λ l. of-select xs y l)
+    where
+      deeper : List·Memᴰ y xs × (test y ≡ true) → List·Memᴰ y (x ∷ xs) × (test y ≡ true)
+      deeper t = (List·Memᴰ·tail (t .0), t .1)
+
+      go : (b : Bool) → test x ≡ b → List·Memᴰ y (cond b (x ∷ select test xs) (select test xs)) → (List·Memᴰ y (select test xs) → List·Memᴰ y xs × (test y ≡ true)) → List·Memᴰ y (x ∷ xs) × (test y ≡ true)
+      go false q k again = deeper (again k)
+      go true q k again = pick (List·Memᴰ·cases-cons k)
+        where
+          pick : (y ≡ x) ⊎ List·Memᴰ y (select test xs) → List·Memᴰ y (x ∷ xs) × (test y ≡ true)
+          pick (inl e) = (List·Memᴰ·head e, ap test e ∙ q)
+          pick (inr l) = deeper (again l)
+
+  pub to-select : {xs : List A} (y : A) → List·Memᴰ y xs → test y ≡ true → List·Memᴰ y (select test xs)
+  unfolding select
+  to-select y (List·Memᴰ·head {x = x} {xs = xs} e) q = subst (λ (b : Bool). List·Memᴰ y (cond b (x ∷ select test xs) (select test xs))) (sym (ap test (sym e) ∙ q)) (List·Memᴰ·head e)
+  to-select y (List·Memᴰ·tail {x = x} {xs = xs} k) q = go (test x) (to-select y k q)
+    where
+      go : (b : Bool) → List·Memᴰ y (select test xs) → List·Memᴰ y (cond b (x ∷ select test xs) (select test xs))
+      go true l = List·Memᴰ·tail l
+      go false l = l
+
+  pub select-once : {xs : List A} → Once xs → Once (select test xs)
+  unfolding select
+  select-once nothing = nothing
+  select-once (first {x = x} {xs = xs} new h) = go (test x) (select-once h)
+    where
+      go : (b : Bool) → Once (select test xs) → Once (cond b (x ∷ select test xs) (select test xs))
+      go true o = first (λ k. new (of-select xs x k .0)) o
+      go false o = o
+
+-- a map that tells the members apart
+pub once-map : {A B : Type 0} (f : A → B) {xs : List A} → ((x y : A) → List·Memᴰ x xs → List·Memᴰ y xs → f x ≡ f y → x ≡ y) → Once xs → Once (map f xs)
+once-map f inj nothing = nothing
+once-map f inj (first {x = x} {xs = xs} new once) = first fresh (once-map f (λ a b m k e. inj a b (List·Memᴰ·tail m) (List·Memᴰ·tail k) e) once)
+  where
+    fresh : ¬ (List·Memᴰ (f x) (map f xs))
+    fresh m = let t = map-inv f xs m in new (Memᴰ·cast (inj x (t .0) (List·Memᴰ·head refl) (List·Memᴰ·tail (t .1)) (t .2)) (t .1))
