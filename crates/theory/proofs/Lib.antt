@@ -18,6 +18,7 @@ pub mod Action
 pub mod Images
 pub mod Symmetric
 pub mod Bounds
+pub mod Whole
 pub mod Counting
 pub mod Steps
 pub mod Places
