@@ -19,10 +19,12 @@ pub mod Images
 pub mod Symmetric
 pub mod Bounds
 pub mod Whole
+pub mod Equal
 pub mod Counting
 pub mod Steps
 pub mod Places
 pub mod Sums
+pub mod Completion
 pub mod Faults
 pub mod Times
 pub mod Areas
