@@ -25,6 +25,8 @@ pub mod Steps
 pub mod Places
 pub mod Sums
 pub mod Completion
+pub mod InOrder
+pub mod Listing
 pub mod Faults
 pub mod Times
 pub mod Areas
