@@ -29,4 +29,5 @@ pub mod InOrder
 pub mod Listing
 pub mod Faults
 pub mod Times
+pub mod Split
 pub mod Areas

@@ -1,7 +1,7 @@
 -- `times u v` is the greatest number for which that multiple of u lies below v, for u not zero. Assumes nothing.
 use mathlib.Core.Path.{_≡_, refl, sym, _∙_, ap, subst}
 use mathlib.Core.Logic.{_↔_}
-use mathlib.Core.Bool.{Bool, true, false, cond}
+use mathlib.Core.Bool.{true, false}
 use mathlib.Core.List.{[], _∷_}
 use Prim.Native.Nat.{ℕ, zero, suc, _*_, _≤_, _<_}
 use native.Mathlib.Nat.{mul-zero, mul-suc, zero-mul, suc-mul, mul-add, le-div-iff-mul-le}
@@ -13,12 +13,9 @@ use lib.Signed.{nonNeg}
 use lib.ListN.{length}
 use Rattle.definitions.specs.Vector.{Vector, below, cellBelow, scale, weight}
 use Rattle.definitions.specs.Split.{cellTimes, times, timesUpTo}
-use Rattle.theory.proofs.Cell.{and-left, and-right, both, cell-complete, cell-sound, down, down-neg, nonNeg-neg, size, up, up-neg}
 use Rattle.theory.proofs.Members.{first}
-
-if-cases : {A : Type 0} (P : A → Type 0) (b : Bool) {x y : A} → (b ≡ true → P x) → (b ≡ false → P y) → P (cond b x y)
-if-cases P true f g = f refl
-if-cases P false f g = g refl
+use Rattle.theory.proofs.Cell.{and-left, and-right, both, cell-complete, cell-sound, down, down-neg, nonNeg-neg, size, up, up-neg}
+use Rattle.theory.proofs.Counting.{if-cases}
 
 -- ---- one cell
 
@@ -27,11 +24,11 @@ record Fits (c : ℕ) (x y : ℤ) : Type 0 where
   rise : c * up x ≤ up y
   fall : c * down x ≤ down y
 
-up-times : (c : ℕ) (x : ℤ) → up (pos c *ℤ x) ≡ c * up x
+pub up-times : (c : ℕ) (x : ℤ) → up (pos c *ℤ x) ≡ c * up x
 up-times c (pos a) = refl
 up-times c (negsuc a) = up-neg (pos (c * suc a)) ∙ sym (mul-zero c)
 
-down-times : (c : ℕ) (x : ℤ) → down (pos c *ℤ x) ≡ c * down x
+pub down-times : (c : ℕ) (x : ℤ) → down (pos c *ℤ x) ≡ c * down x
 down-times c (pos a) = sym (mul-zero c)
 down-times c (negsuc a) = down-neg (pos (c * suc a))
 
@@ -93,16 +90,16 @@ cell-most bound x y c h f =
     (λ s. let q = le-div-iff-mul-le (positive (natAbs x) (eqb-false (natAbs x) 0 e)) .1 (fits-size c x y f) in omega (arith, q))
     (λ s. opposed c x y s (eqb-false (natAbs x) 0 e) f))
 
-record Within (bound c : ℕ) (x y : ℤ) : Type 0 where
+record UpTo (bound c : ℕ) (x y : ℤ) : Type 0 where
   most : c ≤ bound
   fits : Fits c x y
 
-cell-least : (bound : ℕ) (x y : ℤ) (c : ℕ) → c ≤ cellTimes bound x y → Within bound c x y
+cell-least : (bound : ℕ) (x y : ℤ) (c : ℕ) → c ≤ cellTimes bound x y → UpTo bound c x y
 unfolding cellTimes
 cell-least bound x y c =
-    if-cases (λ (m : ℕ). c ≤ m → Within bound c x y) (eqb (natAbs x) 0)
+    if-cases (λ (m : ℕ). c ≤ m → UpTo bound c x y) (eqb (natAbs x) 0)
     (λ e h. record { most = h; fits = fits-zero c x y (eqb-true (natAbs x) 0 e) })
-    (λ e. if-cases (λ (m : ℕ). c ≤ m → Within bound c x y) (nonNeg (x *ℤ y))
+    (λ e. if-cases (λ (m : ℕ). c ≤ m → UpTo bound c x y) (nonNeg (x *ℤ y))
     (λ s h. record {
       most = omega arith;
       fits = agreeing c x y s (eqb-false (natAbs x) 0 e) (le-div-iff-mul-le (positive (natAbs x) (eqb-false (natAbs x) 0 e)) .0 (omega arith));
