@@ -5,12 +5,12 @@ use mathlib.Core.Logic.{_↔_}
 use mathlib.Core.Bool.{Bool, true, false, cond}
 use mathlib.Core.List.{List, _∷_}
 use Prim.Native.Nat.{ℕ, zero, suc, _+_, _-_, _≤_, _<_}
+use native.Mathlib.Decide.{ℕ-discrete}
 use native.Mathlib.Numerals.{add-one}
 use native.Mathlib.Omega.{arith}
-use native.Mathlib.Decide.{ℕ-discrete}
 use Rattle.definitions.specs.declared.Fault.{Fault}
 use Rattle.definitions.specs.declared.Fault.the-variants.{None, At}
-use Rattle.definitions.specs.Refusals.{faultFrom, faultWhere, firstFault}
+use Rattle.definitions.specs.Refusals.{Outcome, accepted, faultFrom, faultIf, faultWhere, firstFault, refused, unlessFault}
 use Rattle.theory.proofs.Cell.{same}
 
 -- one more place is left
@@ -85,3 +85,61 @@ where-none number count met = (
   λ e p h. from-none number 0 count met e p (omega arith) (omega arith),
   λ f. none-from number 0 count met (λ p h k. f p (omega arith)),
 )
+
+-- ---- the first of some tests
+pub tests-none : (fault : Fault) (faults : List Fault) → firstFault (fault ∷ faults) ≡ None → (fault ≡ None) × (firstFault faults ≡ None)
+unfolding firstFault IsAt
+tests-none None faults e = (refl, e)
+tests-none (At number place) faults e = absurd (subst IsAt e tt)
+
+pub none-all : {fault : Fault} (faults : List Fault) → fault ≡ None → firstFault faults ≡ None → firstFault (fault ∷ faults) ≡ None
+unfolding firstFault
+none-all {fault} faults e f = ap (λ (x : Fault). firstFault (x ∷ faults)) e ∙ f
+
+pub if-none : (number : ℕ) (met : Bool) → faultIf number met ≡ None → met ≡ false
+unfolding faultIf IsAt
+if-none number true e = absurd (subst IsAt e tt)
+if-none number false e = refl
+
+pub none-if : (number : ℕ) {met : Bool} → met ≡ false → faultIf number met ≡ None
+unfolding faultIf
+none-if number e = ap (λ (b : Bool). cond b (At number 0) None) e
+
+-- ---- the numbers of refusals
+-- the number, if there is one, satisfies P
+abbrev pub Numbered : (P : ℕ → Type 0) → Fault → Type 0
+Numbered P None = Unit {0}
+Numbered P (At number place) = P number
+
+pub numbered-first : (P : ℕ → Type 0) (fault : Fault) (faults : List Fault) → Numbered P fault → Numbered P (firstFault faults) → Numbered P (firstFault (fault ∷ faults))
+unfolding firstFault
+numbered-first P None faults h k = k
+numbered-first P (At number place) faults h k = h
+
+pub numbered-if : (P : ℕ → Type 0) (number : ℕ) (met : Bool) → P number → Numbered P (faultIf number met)
+unfolding faultIf
+numbered-if P number true h = h
+numbered-if P number false h = tt
+
+numbered-from : (P : ℕ → Type 0) (number place count : ℕ) (met : ℕ → Bool) → P number → Numbered P (faultFrom number place count met)
+unfolding faultFrom
+numbered-from P number place zero met h = tt
+numbered-from P number place (suc count) met h = go (met place) (numbered-from P number (suc place) count met h)
+  where
+    go : (b : Bool) → Numbered P (faultFrom number (suc place) count met) → Numbered P (cond b (At number place) (faultFrom number (suc place) count met))
+    go true rest = h
+    go false rest = rest
+
+pub numbered-where : (P : ℕ → Type 0) (number count : ℕ) (met : ℕ → Bool) → P number → Numbered P (faultWhere number count met)
+unfolding faultWhere
+numbered-where P number count met h = numbered-from P number 0 count met h
+
+-- ---- an outcome after tests
+pub accepted-refused : {A : Type 0} {X : Type 0} {found : A} {number place : ℕ} → _≡_ {A = Outcome A} (refused number place) (accepted found) → X
+accepted-refused e = let z : _≡_ {A = ℕ} 0 1 = cc in absurd (omega arith)
+
+-- an accepted outcome met no test before it
+pub unless-none : {A : Type 0} (fault : Fault) (outcome : Outcome A) {found : A} → unlessFault fault outcome ≡ accepted found → (fault ≡ None) × (outcome ≡ accepted found)
+unfolding unlessFault
+unless-none None outcome e = (refl, e)
+unless-none (At number place) outcome e = accepted-refused e

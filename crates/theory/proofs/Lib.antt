@@ -27,7 +27,8 @@ pub mod Sums
 pub mod Completion
 pub mod InOrder
 pub mod Listing
-pub mod Faults
 pub mod Times
 pub mod Split
 pub mod Areas
+pub mod Faults
+pub mod Accepted

@@ -1,0 +1,188 @@
+-- What the tests under size, generators and exchanges say of an order that meets none (Specification 7.2 and 7.3): above all, that every
+-- member of the group keeps the lattice. Assumes nothing.
+use mathlib.Core.Path.{_≡_, refl, sym, _∙_, subst}
+use mathlib.Core.Bool.{Bool, true, false, not, _&&_, _||_}
+use mathlib.Core.List.{List, [], _∷_, List·Memᴰ}
+use Prim.Native.Nat.{ℕ, zero, suc, _-_, _≤_}
+use borrow.Author.Tests.{leb-true, not-false}
+use lib.Dec.{leb}
+use lib.IntN.{ℤ, pos, natAbs}
+use lib.ListN.{length, getD, take, drop, replicate, length-append, length-replicate, length-take}
+use native.Mathlib.Omega.{arith}
+use Rattle.definitions.specs.declared.Fault.the-variants.{None}
+use Rattle.definitions.specs.Limits.{cells, entryLimit}
+use Rattle.definitions.specs.Vector.{Vector, isMember, isZero, negative, padded, plus, zeroVector}
+use Rattle.definitions.specs.Lattice.{InLattice}
+use Rattle.definitions.specs.Group.{Exchange, exchanged, isExchange}
+use Rattle.definitions.specs.Lent.{Order, chunks, exchangesOf, generatorsOf, groupRows, rowsOf, tableOf, vectorsOf}
+use Rattle.definitions.specs.Refusals.{cellsFault, faultWhere, isGenerator, isPast, leavesGenerators, orderFault}
+use Rattle.theory.proofs.Tests.{and-true-left, and-true-right, clash}
+use Rattle.theory.proofs.Members.{Each, any-none, each-append, each-both, each-cons, each-from, each-image, each-map, each-member, each-nil, member-place}
+use Rattle.theory.proofs.Vector.{length-negative, length-plus, length-zero, negative-negative}
+use Rattle.theory.proofs.Lattice.{lattice-generator, lattice-ind, lattice-negative, lattice-plus, lattice-zeros}
+use Rattle.theory.proofs.Exchanges.{AllExchanges, valid-of}
+use Rattle.theory.proofs.GroupTable.{table-of-group}
+use Rattle.theory.proofs.Action.{exchanged-negative, exchanged-plus, exchanged-zero}
+use Rattle.theory.proofs.Symmetric.{Symmetric}
+use Rattle.theory.proofs.Bounds.{Within, not-zero}
+use Rattle.theory.proofs.Equal.{is-member}
+use Rattle.theory.proofs.Faults.{if-none, tests-none, where-none}
+
+-- ---- rows of numbers as vectors
+pub padded-length : (numbers : List ℤ) → length numbers ≤ cells → length (padded numbers) ≡ cells
+unfolding padded
+padded-length numbers h =
+    omega (arith, length-append numbers (replicate (cells - length numbers) (pos 0)), length-replicate (cells - length numbers) (pos 0))
+
+zeros-within : (limit k : ℕ) → Within limit (replicate k (pos 0))
+zeros-within limit zero = each-nil
+zeros-within limit (suc k) = let h : natAbs (pos 0) ≤ limit = omega arith in each-cons h (zeros-within limit k)
+
+pub padded-within : {limit : ℕ} {numbers : List ℤ} → Within limit numbers → Within limit (padded numbers)
+unfolding padded
+padded-within {limit} {numbers} h = each-append h (zeros-within limit (cells - length numbers))
+
+each-take : {A : Type 0} {P : A → Type 0} (k : ℕ) {xs : List A} → Each P xs → Each P (take k xs)
+each-take zero h = each-nil
+each-take (suc k) each-nil = each-nil
+each-take (suc k) (each-cons p h) = each-cons p (each-take k h)
+
+each-drop : {A : Type 0} {P : A → Type 0} (k : ℕ) {xs : List A} → Each P xs → Each P (drop k xs)
+each-drop zero h = h
+each-drop (suc k) each-nil = each-nil
+each-drop (suc k) (each-cons p h) = each-drop k h
+
+chunks-each : {A : Type 0} {P : A → Type 0} (width count : ℕ) {xs : List A} → Each P xs → Each (λ row. (length row ≤ width) × Each P row) (chunks width count xs)
+unfolding chunks
+chunks-each width zero h = each-nil
+chunks-each width (suc count) {xs} h = let l : length (take width xs) ≤ width = omega (arith, length-take width xs) in each-cons (l, each-take width h) (chunks-each width count (each-drop width h))
+
+each-any : {A : Type 0} (xs : List A) → Each (λ x. Unit {0}) xs
+each-any [] = each-nil
+each-any (x ∷ xs) = each-cons tt (each-any xs)
+
+pub vectors-length : (n : ℕ) (numbers : List ℤ) → n ≤ cells → Each (λ v. length v ≡ cells) (vectorsOf n numbers)
+unfolding vectorsOf rowsOf
+vectors-length n numbers h = each-image padded (λ row (t : (length row ≤ n) × Each (λ x. Unit {0}) row). padded-length row (omega (arith, t .0))) (chunks-each n _ (each-any numbers))
+
+pub vectors-within : {limit : ℕ} (n : ℕ) {numbers : List ℤ} → Within limit numbers → Each (Within limit) (vectorsOf n numbers)
+unfolding vectorsOf rowsOf
+vectors-within {limit} n h = each-image padded (λ row (t : (length row ≤ n) × Within limit row). padded-within (t .1)) (chunks-each n _ h)
+
+-- a number past no limit
+pub past-none : (limit : ℕ) (x : ℤ) → isPast limit x ≡ false → natAbs x ≤ limit
+unfolding isPast
+past-none limit x e = leb-true (natAbs x) limit (not-false (leb (natAbs x) limit) e)
+
+-- no number of a list is past the limit
+pub past-where : (number limit : ℕ) (numbers : List ℤ) → faultWhere number (length numbers) (λ p. isPast limit (getD numbers p (pos 0))) ≡ None → Within limit numbers
+past-where number limit numbers e =
+    each-from numbers (pos 0) (λ p l. past-none limit (getD numbers p (pos 0)) (where-none number (length numbers) (λ p. isPast limit (getD numbers p (pos 0))) .0 e p l))
+
+-- 5
+pub record Sized (n : ℕ) : Type 0 where
+  pub least : 1 ≤ n
+  pub most : n ≤ cells
+
+pub cells-none : (n : ℕ) → cellsFault n ≡ None → Sized n
+unfolding cellsFault
+cells-none n e =
+    let b = not-false (leb 1 n && leb n cells) (if-none 5 (not (leb 1 n && leb n cells)) e) in
+    record { least = leb-true 1 n (and-true-left (leb 1 n) (leb n cells) b); most = leb-true n cells (and-true-right (leb 1 n) (leb n cells) b) }
+
+-- ---- 7 to 11
+pub record Acceptable (order : Order) (groupSize : ℕ) : Type 0 where
+  pub limited : Within entryLimit (order .generators)
+  pub nonzero : Each (λ g. isZero g ≡ false) (generatorsOf order)
+  pub exchanges : AllExchanges (order .n) (exchangesOf order)
+  pub roomy : length (tableOf order groupSize) ≤ groupRows (order .n) groupSize
+  pub closed : Each (λ g. leavesGenerators (generatorsOf order) (exchangesOf order) g ≡ false) (generatorsOf order)
+
+pub order-none : (order : Order) (groupSize : ℕ) → orderFault order groupSize ≡ None → Acceptable order groupSize
+unfolding orderFault
+order-none order groupSize e =
+    let a = tests-none _ _ e in
+    let b = tests-none _ _ (a .1) in
+    let c = tests-none _ _ (b .1) in
+    let d = tests-none _ _ (c .1) in
+    let f = tests-none _ _ (d .1) in
+    record {
+      limited = past-where 7 entryLimit (order .generators) (a .0);
+      nonzero = each-from generators [] (where-none 8 (length generators) (λ p. isZero (getD generators p [])) .0 (b .0));
+      exchanges = λ s k.
+          let at = member-place [] k in
+          subst (λ (t : Exchange). isExchange (order .n) t ≡ true) (at .2)
+          (not-false (isExchange (order .n) (getD sent (at .0) [])) (where-none 9 (length sent) (λ p. not (isExchange (order .n) (getD sent p []))) .0 (c .0) (at .0) (at .1)));
+      roomy = leb-true _ _ (not-false (leb (length (tableOf order groupSize)) (groupRows (order .n) groupSize)) (if-none 10 _ (d .0)));
+      closed = each-from generators [] (where-none 11 (length generators) (λ p. leavesGenerators generators sent (getD generators p [])) .0 (f .0));
+    }
+  where
+    generators : List Vector
+    generators = generatorsOf order
+
+    sent : List Exchange
+    sent = exchangesOf order
+
+-- ---- the lattice is kept
+is-generator : (generators : List Vector) → Each (λ g. length g ≡ cells) generators → (v : Vector) → isGenerator generators v ≡ true → InLattice generators v
+unfolding isGenerator
+is-generator generators sizes v e = go (isMember v generators) refl (isMember (negative v) generators) refl e
+  where
+    go : (a : Bool) → isMember v generators ≡ a → (b : Bool) → isMember (negative v) generators ≡ b → (a || b) ≡ true → InLattice generators v
+    go true p b q f = each-member (lattice-generator sizes) (is-member v generators p)
+    go false p true q f = subst (InLattice generators) (negative-negative v) (lattice-negative generators sizes (each-member (lattice-generator sizes) (is-member (negative v) generators q)))
+    go false p false q f = absurd (clash f refl)
+
+-- an exchange that keeps the generators in the lattice keeps the lattice
+exchange-keeps : (generators : List Vector) → Each (λ g. length g ≡ cells) generators → (e : Exchange) → length e ≤ cells → Each (λ g. InLattice generators (exchanged e g)) generators
+    → (v : Vector) → InLattice generators v → InLattice generators (exchanged e v)
+exchange-keeps generators sizes e short h v l = lattice-ind generators sizes P at-zero at-plus at-negative (each-both sizes h) v l .1
+  where
+    P : Vector → Type 0
+    P w = (length w ≡ cells) × InLattice generators (exchanged e w)
+
+    at-zero : P zeroVector
+    at-zero = (length-zero, subst (InLattice generators) (sym (exchanged-zero e short)) (lattice-zeros generators sizes))
+
+    at-plus : (u w : Vector) → P u → P w → P (plus u w)
+    at-plus u w a b = (length-plus cells u w (a .0) (b .0), subst (InLattice generators) (sym (exchanged-plus e u w (a .0 ∙ sym (b .0)))) (lattice-plus generators sizes (a .1) (b .1)))
+
+    at-negative : (u : Vector) → P u → P (negative u)
+    at-negative u a = (length-negative u ∙ a .0, subst (InLattice generators) (sym (exchanged-negative e u)) (lattice-negative generators sizes (a .1)))
+
+pub generators-length : (order : Order) → order .n ≤ cells → Each (λ g. length g ≡ cells) (generatorsOf order)
+unfolding generatorsOf
+generators-length order h = vectors-length (order .n) (order .generators) h
+
+stays-generator : (generators : List Vector) (sent : List Exchange) (g : Vector) → leavesGenerators generators sent g ≡ false → (s : Exchange) → List·Memᴰ s sent → isGenerator generators (exchanged s g) ≡ true
+unfolding leavesGenerators
+stays-generator generators sent g h s k =
+    not-false (isGenerator generators (exchanged s g)) (each-member (any-none (λ t. not (isGenerator generators (exchanged t g))) sent h) k)
+
+-- AN ORDER THAT MEETS NO TEST UP TO 11 keeps its lattice, and its table is its group's
+pub order-symmetric : (order : Order) (groupSize : ℕ) → cellsFault (order .n) ≡ None → orderFault order groupSize ≡ None
+    → Symmetric (order .n) (exchangesOf order) (tableOf order groupSize) (generatorsOf order)
+unfolding tableOf
+order-symmetric order groupSize e f = record {
+  fits = cells-none (order .n) e .most;
+  sizes = sizes;
+  exchanges = A .exchanges;
+  isTable = table-of-group (order .n) (exchangesOf order) (groupRows (order .n) groupSize) (A .roomy);
+  keeps = λ s k. exchange-keeps (generatorsOf order) sizes s (omega (arith, valid-of (order .n) s (A .exchanges s k) .long, cells-none (order .n) e .most)) (each-map (λ g (h : leavesGenerators (generatorsOf order) (exchangesOf order) g ≡ false). kept s k g h) (A .closed));
+}
+  where
+    A : Acceptable order groupSize
+    A = order-none order groupSize f
+
+    sizes : Each (λ g. length g ≡ cells) (generatorsOf order)
+    sizes = generators-length order (cells-none (order .n) e .most)
+
+    kept : (s : Exchange) → List·Memᴰ s (exchangesOf order) → (g : Vector) → leavesGenerators (generatorsOf order) (exchangesOf order) g ≡ false → InLattice (generatorsOf order) (exchanged s g)
+    kept s k g h = is-generator (generatorsOf order) sizes (exchanged s g) (stays-generator (generatorsOf order) (exchangesOf order) g h s k)
+
+-- its generators are nonzero and within the limit
+pub order-generators : (order : Order) (groupSize : ℕ) → orderFault order groupSize ≡ None → Each (λ g. ¬ (g ≡ zeroVector)) (generatorsOf order) × Each (Within entryLimit) (generatorsOf order)
+unfolding generatorsOf
+order-generators order groupSize f =
+    let A = order-none order groupSize f in
+    (each-map (λ g (h : isZero g ≡ false). not-zero h) (A .nonzero), vectors-within (order .n) (A .limited))
