@@ -1,9 +1,9 @@
 -- Laws of the tests, as a loop over places uses them: at place i the loop's invariant is that what is left, `faultFrom number i (count - i) met`, is the whole test.
 -- Assumes nothing.
 use mathlib.Core.Path.{_≡_, refl, sym, _∙_, ap, subst}
-use mathlib.Core.Logic.{_↔_}
+use mathlib.Core.Logic.{_↔_, _⊎_, inl, inr}
 use mathlib.Core.Bool.{Bool, true, false, cond}
-use mathlib.Core.List.{List, _∷_}
+use mathlib.Core.List.{List, _∷_, []}
 use Prim.Native.Nat.{ℕ, zero, suc, _+_, _-_, _≤_, _<_}
 use native.Mathlib.Decide.{ℕ-discrete}
 use native.Mathlib.Numerals.{add-one}
@@ -106,33 +106,40 @@ unfolding faultIf
 none-if number e = ap (λ (b : Bool). cond b (At number 0) None) e
 
 -- ---- the numbers of refusals
+abbrev NumberIs : (P : ℕ → Type 0) → Fault → Type 0
+NumberIs P None = Unit {0}
+NumberIs P (At number place) = P number
+
 -- the number, if there is one, satisfies P
-abbrev pub Numbered : (P : ℕ → Type 0) → Fault → Type 0
-Numbered P None = Unit {0}
-Numbered P (At number place) = P number
+pub record Numbered (P : ℕ → Type 0) (fault : Fault) : Type 0 where
+  pub number : NumberIs P fault
 
-pub numbered-first : (P : ℕ → Type 0) (fault : Fault) (faults : List Fault) → Numbered P fault → Numbered P (firstFault faults) → Numbered P (firstFault (fault ∷ faults))
+pub numbered-end : (P : ℕ → Type 0) → Numbered P (firstFault [])
 unfolding firstFault
-numbered-first P None faults h k = k
-numbered-first P (At number place) faults h k = h
+numbered-end P = record { number = tt }
 
-pub numbered-if : (P : ℕ → Type 0) (number : ℕ) (met : Bool) → P number → Numbered P (faultIf number met)
+pub numbered-first : {P : ℕ → Type 0} {fault : Fault} (faults : List Fault) → Numbered P fault → Numbered P (firstFault faults) → Numbered P (firstFault (fault ∷ faults))
+unfolding firstFault
+numbered-first {fault = None} faults h k = k
+numbered-first {fault = At number place} faults h k = record { number = h .number }
+
+pub numbered-if : {P : ℕ → Type 0} (number : ℕ) (met : Bool) → P number → Numbered P (faultIf number met)
 unfolding faultIf
-numbered-if P number true h = h
-numbered-if P number false h = tt
+numbered-if number true h = record { number = h }
+numbered-if number false h = record { number = tt }
 
-numbered-from : (P : ℕ → Type 0) (number place count : ℕ) (met : ℕ → Bool) → P number → Numbered P (faultFrom number place count met)
+numbered-from : {P : ℕ → Type 0} (number place count : ℕ) (met : ℕ → Bool) → P number → Numbered P (faultFrom number place count met)
 unfolding faultFrom
-numbered-from P number place zero met h = tt
-numbered-from P number place (suc count) met h = go (met place) (numbered-from P number (suc place) count met h)
+numbered-from number place zero met h = record { number = tt }
+numbered-from {P} number place (suc count) met h = go (met place) (numbered-from number (suc place) count met h)
   where
     go : (b : Bool) → Numbered P (faultFrom number (suc place) count met) → Numbered P (cond b (At number place) (faultFrom number (suc place) count met))
-    go true rest = h
+    go true rest = record { number = h }
     go false rest = rest
 
-pub numbered-where : (P : ℕ → Type 0) (number count : ℕ) (met : ℕ → Bool) → P number → Numbered P (faultWhere number count met)
+pub numbered-where : {P : ℕ → Type 0} (number count : ℕ) (met : ℕ → Bool) → P number → Numbered P (faultWhere number count met)
 unfolding faultWhere
-numbered-where P number count met h = numbered-from P number 0 count met h
+numbered-where number count met h = numbered-from number 0 count met h
 
 -- ---- an outcome after tests
 pub accepted-refused : {A : Type 0} {X : Type 0} {found : A} {number place : ℕ} → _≡_ {A = Outcome A} (refused number place) (accepted found) → X
@@ -143,3 +150,13 @@ pub unless-none : {A : Type 0} (fault : Fault) (outcome : Outcome A) {found : A}
 unfolding unlessFault
 unless-none None outcome e = (refl, e)
 unless-none (At number place) outcome e = accepted-refused e
+
+-- a refusal was met before, or after
+pub unless-refused : {A : Type 0} (fault : Fault) (outcome : Outcome A) {number place : ℕ} → unlessFault fault outcome ≡ refused number place → (fault ≡ At number place) ⊎ ((fault ≡ None) × (outcome ≡ refused number place))
+unfolding unlessFault
+unless-refused None outcome e = inr (refl, e)
+unless-refused (At a b) outcome {number} {place} e = let p : a ≡ number = cc in let q : b ≡ place = cc in inl (λ i. At (p i) (q i))
+
+-- a fault with another number
+pub other-number : {X : Type 0} {number place : ℕ} (fault : Fault) → Numbered (λ m. ¬ (m ≡ number)) fault → fault ≡ At number place → X
+other-number {number = number} fault h e = absurd (subst (Numbered (λ m. ¬ (m ≡ number))) e h .number refl)

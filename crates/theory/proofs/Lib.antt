@@ -32,3 +32,4 @@ pub mod Split
 pub mod Areas
 pub mod Faults
 pub mod Accepted
+pub mod ListCall
