@@ -92,6 +92,10 @@ unfolding firstFault IsAt
 tests-none None faults e = (refl, e)
 tests-none (At number place) faults e = absurd (subst IsAt e tt)
 
+pub none-end : firstFault [] ≡ None
+unfolding firstFault
+none-end = refl
+
 pub none-all : {fault : Fault} (faults : List Fault) → fault ≡ None → firstFault faults ≡ None → firstFault (fault ∷ faults) ≡ None
 unfolding firstFault
 none-all {fault} faults e f = ap (λ (x : Fault). firstFault (x ∷ faults)) e ∙ f

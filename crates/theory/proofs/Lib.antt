@@ -33,3 +33,5 @@ pub mod Areas
 pub mod Faults
 pub mod Accepted
 pub mod ListCall
+pub mod SplitCall
+pub mod CheckCall
