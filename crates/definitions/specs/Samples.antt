@@ -1,12 +1,13 @@
 -- Specification 10: the sample orders P1 to P12, as lent calls with the areas that programs lend. Assumes nothing.
 use mathlib.Core.Path.{_≡_}
-use mathlib.Core.List.{List, [], _∷_}
-use Prim.Native.Nat.{ℕ, _*_}
+use mathlib.Core.List.{List, [], _∷_, _++_}
+use Prim.Native.Nat.{ℕ, _*_, _-_}
 use lib.IntN.{ℤ, pos, negℤ}
+use lib.ListN.{length, replicate}
 use Rattle.definitions.specs.declared.Answer.{Answer}
 use Rattle.definitions.specs.declared.Answer.the-variants.{Moves, Split, Passed, Refused}
 use Rattle.definitions.specs.Limits.{groupLimit, listLimit, lentPieces, pieceWidth}
-use Rattle.definitions.specs.Lent.{Order, filled}
+use Rattle.definitions.specs.Lent.{Order}
 use Rattle.definitions.specs.Calls.{listCall, splitCall, checkCall}
 
 -- a lent call; `listRows` are the list rows lent
@@ -50,19 +51,25 @@ abbrev −_ : ℕ → ℤ
 sent : ℕ → List ℤ → List ℕ → Order
 sent n generators exchanges = record { n = n; generators = generators; exchanges = exchanges }
 
+-- an area of `size` numbers: these, and zeros
+area : {A : Type 0} → A → ℕ → List A → List A
+area blank size numbers = numbers ++ replicate (size - length numbers) blank
+
 -- the end of a List with these answer, rows and exchanges
 moves : ℕ → Answer → List ℤ → List ℕ → End
+unfolding area
 moves n answer rows table =
-    record { answer = answer; list = filled (pos 0) (n * listLimit) rows; group = filled 0 (n * groupLimit) table; pieces = [] }
+    record { answer = answer; list = area (pos 0) (n * listLimit) rows; group = area 0 (n * groupLimit) table; pieces = [] }
 
 -- the end of a refused call that lends so many list rows and pieces
 turnedDown : ℕ → Answer → ℕ → ℕ → End
+unfolding area
 turnedDown n answer listRows pieces =
     record {
       answer = answer;
-      list = filled (pos 0) (n * listRows) [];
-      group = filled 0 (n * groupLimit) [];
-      pieces = filled (pos 0) (pieceWidth * pieces) [];
+      list = area (pos 0) (n * listRows) [];
+      group = area 0 (n * groupLimit) [];
+      pieces = area (pos 0) (pieceWidth * pieces) [];
     }
 
 p2 : Order
@@ -77,7 +84,7 @@ unfolding sent
 p4 = sent 3 (+ 1 ∷ + 0 ∷ − 1 ∷ + 2 ∷ − 1 ∷ + 0 ∷ + 0 ∷ − 1 ∷ + 2 ∷ []) (3 ∷ 2 ∷ 1 ∷ [])
 
 unfoldable pub samples : List Sample
-unfolding sent moves turnedDown p2 p3 p4
+unfolding sent area moves turnedDown p2 p3 p4
 samples =
     -- P1: n 1, no generators
     record { call = list (sent 1 [] []) listLimit; end = moves 1 (Moves 0 1 0 0) [] (1 ∷ []) }
@@ -102,9 +109,9 @@ samples =
       call = split p2 (+ 5 ∷ []);
       end = record {
         answer = Split 1 1 1 3 12;
-        list = filled (pos 0) listLimit (+ 1 ∷ []);
-        group = filled 0 groupLimit (1 ∷ []);
-        pieces = filled (pos 0) (pieceWidth * lentPieces) (+ 0 ∷ + 0 ∷ + 1 ∷ + 5 ∷ []);
+        list = area (pos 0) listLimit (+ 1 ∷ []);
+        group = area 0 groupLimit (1 ∷ []);
+        pieces = area (pos 0) (pieceWidth * lentPieces) (+ 0 ∷ + 0 ∷ + 1 ∷ + 5 ∷ []);
       };
     }
     -- P8: (2), split (1)

@@ -15,7 +15,6 @@ use Rattle.definitions.specs.Split.{written}
 use Rattle.definitions.specs.Lent.{Order, filled, numbersOf, tableOf}
 use Rattle.definitions.specs.Refusals.{Outcome, accepted, refused}
 use Rattle.definitions.specs.Calls.{ListEnd, Listing, Parts, SplitEnd, checkCall, checkEnd, checkFault, listCall, listEnd, listing, parts, splitCall, splitEnd}
-use Rattle.theory.proofs.Cell.{size}
 
 -- an area where nothing is written holds zeros
 pub filled-nothing : {A : Type 0} (blank : A) (size : ℕ) → filled blank size [] ≡ replicate size blank

@@ -14,7 +14,7 @@ use Rattle.definitions.specs.declared.Answer.the-variants.{Passed}
 use Rattle.definitions.specs.declared.Fault.{Fault}
 use Rattle.definitions.specs.declared.Fault.the-variants.{None, At}
 use Rattle.definitions.specs.Limits.{coefficientLimit, entryLimit, listLimit}
-use Rattle.definitions.specs.Lists.{any, sorted}
+use Rattle.definitions.specs.Lists.{any}
 use Rattle.definitions.specs.Vector.{Vector, equal, isZero, padded, within}
 use Rattle.definitions.specs.Lattice.{InLattice, combination}
 use Rattle.definitions.specs.Group.{Exchange, identity, unit}
@@ -22,12 +22,11 @@ use Rattle.definitions.specs.Orbit.{IsImage, precedes, representative}
 use Rattle.definitions.specs.Completion.{hasOtherBelow, remainder, sumCount}
 use Rattle.definitions.specs.Lent.{Order, chunks, exchangesOf, generatorsOf, rowsOf, tableOf, vectorsOf, wholeRows, wholeRowsUpTo}
 use Rattle.definitions.specs.Refusals.{cellsFault, checkSizeFault, isMisplaced, isPast, isUncertified, isUnfit, orderFault, orderFits, rowsFault, wholenessFault}
-use Rattle.definitions.specs.Calls.{checkCall, checkEnd, checkFault, parts, rulesFault}
+use Rattle.definitions.specs.Calls.{checkCall, checkEnd, checkFault, rulesFault}
 use Rattle.definitions.specs.Demands.{ConformalSum, InOrder, RulesKept, Whole}
 use Rattle.theory.proofs.Tests.{and-true-right, or-false-left, or-false-right}
 use Rattle.theory.proofs.Lists.{chunks-length, row-long}
-use Rattle.theory.proofs.Members.{each-from, each-member, first, member-place}
-use Rattle.theory.proofs.Cell.{apart}
+use Rattle.theory.proofs.Members.{each-from, each-member, member-place}
 use Rattle.theory.proofs.Below.{unopposed}
 use Rattle.theory.proofs.Symmetric.{Symmetric}
 use Rattle.theory.proofs.Bounds.{not-zero}

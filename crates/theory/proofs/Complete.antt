@@ -12,7 +12,6 @@ use Rattle.definitions.specs.Limits.{cells}
 use Rattle.definitions.specs.Vector.{Vector, minus, total, weight, zeroVector}
 use Rattle.definitions.specs.Lattice.{Graver, InLattice}
 use Rattle.definitions.specs.Completion.{reduced}
-use Rattle.definitions.specs.Calls.{parts}
 use Rattle.theory.proofs.Vector.{minus-plus, plus-comm, weight-zero-vector, weightless}
 use Rattle.theory.proofs.Below.{_⊑_, ⊑-length, ⊑-refl, ⊑-same-weight, ⊑-trans, ⊑-weight}
 use Rattle.theory.proofs.Members.{Each, each-cons, each-map, each-member, each-nil}

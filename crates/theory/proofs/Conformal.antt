@@ -10,7 +10,7 @@ use Rattle.definitions.specs.Limits.{cells}
 use Rattle.definitions.specs.Vector.{Vector, negative, plus, total, weight}
 use Rattle.theory.proofs.Vector.{length-plus, length-zero, negative-plus, negative-zero, plus-assoc, plus-comm, plus-zero, weight-zero-vector, zero-plus}
 use Rattle.theory.proofs.Below.{_⊑_, agree-below, agree-plus, common-agree, ⊑-length, ⊑-trans}
-use Rattle.theory.proofs.Members.{Each, each-cons, each-map, each-nil, first}
+use Rattle.theory.proofs.Members.{Each, each-cons, each-map, each-nil}
 
 -- ---- sums of lists
 pub length-total : {vs : List Vector} → Each (λ v. length v ≡ cells) vs → length (total vs) ≡ cells

@@ -18,7 +18,7 @@ use Rattle.definitions.specs.Completion.{remainder}
 use Rattle.definitions.specs.Split.{Image, Piece, Splitting, placedOrbit, placedOrbits, share, splitting, times, withPiece}
 use Rattle.definitions.specs.Demands.{SplitKept, Whole}
 use Rattle.theory.proofs.Lists.{mem-map}
-use Rattle.theory.proofs.Members.{Each, each-cons, each-image, each-map, each-member, each-nil, each-of, first}
+use Rattle.theory.proofs.Members.{Each, each-cons, each-image, each-map, each-member, each-nil, each-of}
 use Rattle.theory.proofs.Cell.{CellBelow, apart, balance, down-neg, up-neg}
 use Rattle.theory.proofs.Vector.{length-minus, negative-plus, negative-zero, plus-assoc, plus-minus, plus-zero, zero-plus}
 use Rattle.theory.proofs.Below.{_⊑_, cons-below, head-below, tail-below, unopposed, weight-rest, ⊑-rest, ⊑-trans, ⊑-weight}

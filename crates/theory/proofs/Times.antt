@@ -13,7 +13,6 @@ use lib.Signed.{nonNeg}
 use lib.ListN.{length}
 use Rattle.definitions.specs.Vector.{Vector, below, cellBelow, scale, weight}
 use Rattle.definitions.specs.Split.{cellTimes, times, timesUpTo}
-use Rattle.theory.proofs.Members.{first}
 use Rattle.theory.proofs.Cell.{and-left, and-right, both, cell-complete, cell-sound, down, down-neg, nonNeg-neg, size, up, up-neg}
 use Rattle.theory.proofs.Counting.{if-cases}
 

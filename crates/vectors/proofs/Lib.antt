@@ -1,0 +1,3 @@
+-- Laws that the proofs of the functions on vectors share.
+pub mod Cells
+pub mod Kit

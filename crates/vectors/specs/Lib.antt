@@ -1,0 +1,2 @@
+-- What the functions on vectors ask of their callers.
+pub mod Bounds

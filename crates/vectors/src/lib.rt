@@ -1,0 +1,245 @@
+// Vectors: an array of CELLS numbers by value, and rows of lent areas (Specification 2.1).
+ghost use mathlib.Core.Path.{_≡_};
+ghost use mathlib.Core.Bool.{true};
+ghost use Prim.Native.Nat.{_+_, _≤_};
+ghost use lib.IntN.{natAbs, _*ℤ_};
+ghost use lib.Signed.{nonNeg};
+ghost use lib.ListN.{length, take, drop};
+ghost use lib.Seq.{paste};
+ghost use Rattle.definitions.specs.Limits.{cells};
+ghost use Rattle.definitions.specs.Vector.{padded, plus, minus, negative, weight, within, isZero, cellBelow, below, equal, greater};
+ghost use Rattle.definitions.specs.Group.{exchanged};
+ghost use Rattle.definitions.specs.Split.{cellTimes, times};
+ghost use Rattle.vectors.specs.Bounds.{headroom, NamesCells};
+
+// The number of cells of a vector.
+pub const CELLS: usize = 16;
+
+// The absolute value of `a`.
+pub fn magnitude(a: i32) -> u32
+    ensures { λ r. ⌜ r ≡ natAbs a ⌝ }
+{
+    let b = a as i64;
+    if b < 0 { (0 - b) as u32 } else { b as u32 }
+}
+
+// Whether `a` lies below `b`, of one cell (Specification 2.3).
+pub fn cell_below(a: i32, b: i32) -> bool
+    ensures { λ r. ⌜ r ≡ cellBelow a b ⌝ }
+{
+    if a < 0 {
+        b <= a
+    } else if 0 < a {
+        a <= b
+    } else {
+        true
+    }
+}
+
+// Whether `u` lies below `v` (Specification 2.3).
+pub fn below(u: [i32; CELLS], v: [i32; CELLS]) -> bool
+    ensures { λ r. ⌜ r ≡ below u v ⌝ }
+{
+    let mut i = 0;
+    while i < CELLS {
+        if !cell_below(u[i], v[i]) {
+            return false;
+        }
+        i += 1;
+    }
+    true
+}
+
+// Whether no cell of `v` is past `limit` in absolute value.
+pub fn within(limit: u32, v: [i32; CELLS]) -> bool
+    ensures { λ r. ⌜ r ≡ within limit v ⌝ }
+{
+    let mut i = 0;
+    while i < CELLS {
+        if limit < magnitude(v[i]) {
+            return false;
+        }
+        i += 1;
+    }
+    true
+}
+
+// Whether `v` is the zero vector.
+pub fn is_zero(v: [i32; CELLS]) -> bool
+    ensures { λ r. ⌜ r ≡ isZero v ⌝ }
+{
+    within(0, v)
+}
+
+// The weight of `v`: the sum of the absolute values (Specification 2.1).
+pub fn weight(v: [i32; CELLS]) -> u64
+    ensures { λ r. ⌜ r ≡ weight v ⌝ }
+{
+    let mut sum: u64 = 0;
+    let mut i = 0;
+    while i < CELLS {
+        sum += magnitude(v[i]) as u64;
+        i += 1;
+    }
+    sum
+}
+
+// Whether `u` and `v` are the same vector.
+pub fn equal(u: [i32; CELLS], v: [i32; CELLS]) -> bool
+    ensures { λ r. ⌜ r ≡ equal u v ⌝ }
+{
+    let mut i = 0;
+    while i < CELLS {
+        if u[i] != v[i] {
+            return false;
+        }
+        i += 1;
+    }
+    true
+}
+
+// Whether `u` is lexicographically greater than `v` (Specification 2.1).
+pub fn greater(u: [i32; CELLS], v: [i32; CELLS]) -> bool
+    ensures { λ r. ⌜ r ≡ greater u v ⌝ }
+{
+    let mut i = 0;
+    while i < CELLS {
+        let a = u[i];
+        let b = v[i];
+        if b < a {
+            return true;
+        }
+        if a < b {
+            return false;
+        }
+        i += 1;
+    }
+    false
+}
+
+// The sum of `u` and `v`.
+pub fn plus(u: [i32; CELLS], v: [i32; CELLS]) -> [i32; CELLS]
+    requires { ⌜ within headroom u ≡ true ⌝ }
+    requires { ⌜ within headroom v ≡ true ⌝ }
+    ensures { λ r. ⌜ r ≡ plus u v ⌝ }
+{
+    let mut w = [0; CELLS];
+    let mut i = 0;
+    while i < CELLS {
+        w[i] = u[i] + v[i];
+        i += 1;
+    }
+    w
+}
+
+// The difference of `u` and `v`.
+pub fn minus(u: [i32; CELLS], v: [i32; CELLS]) -> [i32; CELLS]
+    requires { ⌜ within headroom u ≡ true ⌝ }
+    requires { ⌜ within headroom v ≡ true ⌝ }
+    ensures { λ r. ⌜ r ≡ minus u v ⌝ }
+{
+    let mut w = [0; CELLS];
+    let mut i = 0;
+    while i < CELLS {
+        w[i] = u[i] - v[i];
+        i += 1;
+    }
+    w
+}
+
+// The negative of `v`.
+pub fn negative(v: [i32; CELLS]) -> [i32; CELLS]
+    requires { ⌜ within headroom v ≡ true ⌝ }
+    ensures { λ r. ⌜ r ≡ negative v ⌝ }
+{
+    let mut w = [0; CELLS];
+    let mut i = 0;
+    while i < CELLS {
+        w[i] = 0 - v[i];
+        i += 1;
+    }
+    w
+}
+
+// `v` exchanged by `s`: cell j is cell s(j) of `v`, and the cells past `s` stay (Specification 2.5).
+pub fn exchange(v: [i32; CELLS], s: &[u8]) -> [i32; CELLS]
+    requires { ⌜ NamesCells (now s) ⌝ }
+    ensures { λ r. ⌜ r ≡ exchanged (now (s .entry)) v ⌝ }
+{
+    let mut w = v;
+    let mut j = 0;
+    while j < s.len() {
+        let k = s[j] as usize;
+        w[j] = v[k - 1];
+        j += 1;
+    }
+    w
+}
+
+// The `n` numbers of an area from `at` on, as a vector.
+pub fn load(area: &[i32], at: usize, n: usize) -> [i32; CELLS]
+    requires { ⌜ (n ≤ cells) × (at + n ≤ length (now area)) ⌝ }
+    ensures { λ r. ⌜ r ≡ padded (take n (drop at (now (area .entry)))) ⌝ }
+{
+    let mut w = [0; CELLS];
+    let mut j = 0;
+    while j < n {
+        w[j] = area[at + j];
+        j += 1;
+    }
+    w
+}
+
+// Sets the `n` numbers of an area from `at` on to the first `n` cells of `v`.
+pub fn store(area: &mut [i32], at: usize, n: usize, v: [i32; CELLS])
+    requires { ⌜ (n ≤ cells) × (at + n ≤ length (now area)) ⌝ }
+    ensures { λ _. ⌜ now (area .exit) ≡ paste (now (area .entry)) at v n ⌝ }
+{
+    let mut j = 0;
+    while j < n {
+        area[at + j] = v[j];
+        j += 1;
+    }
+}
+
+// Whether `a` and `b` do not have opposite signs.
+pub fn same_side(a: i32, b: i32) -> bool
+    ensures { λ r. ⌜ r ≡ nonNeg (a *ℤ b) ⌝ }
+{
+    if a < 0 {
+        b <= 0
+    } else if 0 < a {
+        0 <= b
+    } else {
+        true
+    }
+}
+
+// The greatest number up to `bound` for which that multiple of `a` lies below `b` (Specification 4.1).
+pub fn cell_times(bound: u64, a: i32, b: i32) -> u64
+    ensures { λ r. ⌜ r ≡ cellTimes bound a b ⌝ }
+{
+    let part = magnitude(a) as u64;
+    if part == 0 {
+        return bound;
+    }
+    if !same_side(a, b) {
+        return 0;
+    }
+    let quotient = magnitude(b) as u64 / part;
+    if bound < quotient { bound } else { quotient }
+}
+
+// The greatest number for which that multiple of `u` lies below `v`; for `u` zero, the weight of `v` (Specification 4.1).
+pub fn times(u: [i32; CELLS], v: [i32; CELLS]) -> u64
+    ensures { λ r. ⌜ r ≡ times u v ⌝ }
+{
+    let mut bound = weight(v);
+    let mut i = 0;
+    while i < CELLS {
+        let next = cell_times(bound, u[i], v[i]);
+        bound = next;
+        i += 1;
+    }
+    bound
+}
