@@ -160,7 +160,7 @@ filled w₀ p i e h k =
     let none : drop (length p) w₀ ≡ [] = drop-of-length-le w₀ {i = length p} (omega arith) in
     filled-part w₀ p i e h ∙ rw (none, append-nil p)
 
--- ---- sums, differences and negatives, by the cell
+-- ---- sums and negatives, by the cell
 
 plus-at : (u v : Vector) (i : ℕ) → i < length u → i < length v → cellAt (plus u v) i ≡ cellAt u i +ℤ cellAt v i
 unfolding plus
@@ -169,30 +169,11 @@ plus-at (a ∷ u) [] i h k = none-below k
 plus-at (a ∷ u) (b ∷ v) zero h k = refl
 plus-at (a ∷ u) (b ∷ v) (suc i) h k = plus-at u v i (omega arith) (omega arith)
 
-pub length-plus : (u v : Vector) → length u ≡ length v → length (plus u v) ≡ length u
-unfolding plus
-length-plus [] v h = refl
-length-plus (a ∷ u) [] h = sym h
-length-plus (a ∷ u) (b ∷ v) h = ap suc (length-plus u v (omega arith))
-
 negative-at : (v : Vector) (i : ℕ) → cellAt (negative v) i ≡ negℤ (cellAt v i)
 unfolding negative
 negative-at [] i = refl
 negative-at (a ∷ v) zero = refl
 negative-at (a ∷ v) (suc i) = negative-at v i
-
-pub length-negative : (v : Vector) → length (negative v) ≡ length v
-unfolding negative
-length-negative [] = refl
-length-negative (a ∷ v) = ap suc (length-negative v)
-
-minus-at : (u v : Vector) (i : ℕ) → i < length u → i < length v → cellAt (minus u v) i ≡ cellAt u i -ℤ cellAt v i
-unfolding minus
-minus-at u v i h k = plus-at u (negative v) i h (omega (arith, length-negative v)) ∙ ap (λ (z : ℤ). cellAt u i +ℤ z) (negative-at v i)
-
-pub length-minus : (u v : Vector) → length u ≡ length v → length (minus u v) ≡ length u
-unfolding minus
-length-minus u v h = length-plus u (negative v) (omega (arith, length-negative v))
 
 -- what the machine makes of the cells of vectors within the headroom
 module _ (u v : Vector) (i : ℕ) (hu : within headroom u ≡ true) (hv : within headroom v ≡ true) where
@@ -201,12 +182,6 @@ module _ (u v : Vector) (i : ℕ) (hu : within headroom u ≡ true) (hv : within
 
   pub sums-read : i < length u → i < length v → toZ w32 (ofZ w32 (toZ w32 (ofZ w32 (cellAt u i)) +ℤ toZ w32 (ofZ w32 (cellAt v i)))) ≡ cellAt (plus u v) i
   sums-read h k = sum-read (cellAt u i) (cellAt v i) (within-at headroom u i hu) (within-at headroom v i hv) ∙ sym (plus-at u v i h k)
-
-  pub differences-fit : SFits w32 (toZ w32 (ofZ w32 (cellAt u i)) -ℤ toZ w32 (ofZ w32 (cellAt v i)))
-  differences-fit = difference-fits (cellAt u i) (cellAt v i) (within-at headroom u i hu) (within-at headroom v i hv)
-
-  pub differences-read : i < length u → i < length v → toZ w32 (ofZ w32 (toZ w32 (ofZ w32 (cellAt u i)) -ℤ toZ w32 (ofZ w32 (cellAt v i)))) ≡ cellAt (minus u v) i
-  differences-read h k = difference-read (cellAt u i) (cellAt v i) (within-at headroom u i hu) (within-at headroom v i hv) ∙ sym (minus-at u v i h k)
 
 module _ (v : Vector) (i : ℕ) (hv : within headroom v ≡ true) where
   pub negatives-fit : SFits w32 (pos 0 -ℤ toZ w32 (ofZ w32 (cellAt v i)))

@@ -132,21 +132,6 @@ pub fn plus(u: [i32; CELLS], v: [i32; CELLS]) -> [i32; CELLS]
     w
 }
 
-// The difference of `u` and `v`.
-pub fn minus(u: [i32; CELLS], v: [i32; CELLS]) -> [i32; CELLS]
-    requires { ⌜ within headroom u ≡ true ⌝ }
-    requires { ⌜ within headroom v ≡ true ⌝ }
-    ensures { λ r. ⌜ r ≡ minus u v ⌝ }
-{
-    let mut w = [0; CELLS];
-    let mut i = 0;
-    while i < CELLS {
-        w[i] = u[i] - v[i];
-        i += 1;
-    }
-    w
-}
-
 // The negative of `v`.
 pub fn negative(v: [i32; CELLS]) -> [i32; CELLS]
     requires { ⌜ within headroom v ≡ true ⌝ }
@@ -159,6 +144,15 @@ pub fn negative(v: [i32; CELLS]) -> [i32; CELLS]
         i += 1;
     }
     w
+}
+
+// The difference of `u` and `v`.
+pub fn minus(u: [i32; CELLS], v: [i32; CELLS]) -> [i32; CELLS]
+    requires { ⌜ within headroom u ≡ true ⌝ }
+    requires { ⌜ within headroom v ≡ true ⌝ }
+    ensures { λ r. ⌜ r ≡ minus u v ⌝ }
+{
+    plus(u, negative(v))
 }
 
 // `v` exchanged by `s`: cell j is cell s(j) of `v`, and the cells past `s` stay (Specification 2.5).

@@ -1,84 +1,25 @@
--- `minus` meets its contract. The invariant: the cells up to `i` are those of the answer. Assumes nothing.
-use mathlib.Core.Path.{_≡_}
-use Prim.Native.Nat.{_≤_, _-_}
-use native.Mathlib.Omega.{arith}
-use lib.ListN.{length}
-use lib.Seq.{paste, paste-zero}
-use Rattle.definitions.specs.Limits.{cells}
-use Rattle.definitions.specs.Vector.{minus}
-use Rattle.vectors.proofs.Kit.{fill, filled, differences-fit, differences-read, length-minus}
+-- `minus` meets its contract: it is the sum with the negative. Assumes nothing.
+use mathlib.Core.Path.{_≡_, sym, _∙_, ap, subst}
+use mathlib.Core.Bool.{true}
+use borrow.Author.Needs.{needs}
+use Rattle.definitions.specs.Vector.{Vector, within, plus, minus}
+use Rattle.theory.proofs.Bounds.{within-each, each-within, within-negative}
+use Rattle.vectors.specs.Bounds.{headroom}
 use Rattle.vectors.proofs.minus.Statement.{statement}
 use Rattle.vectors.proofs.minus.Tie as tie
 
-abbrev Inv-loop : tie.InvT-loop
-Inv-loop u v w₀ i₀ w i = (i ≤ cells) × (w ≡ paste w₀ 0 (minus u v) i)
+negative-requires : tie.Need-negative-requires
+negative-requires c κs = search needs
 
-abbrev μ-loop : tie.MeasureT-loop
-μ-loop u v w₀ i₀ w i = cells - i
+plus-requires : tie.Need-plus-requires
+plus-requires c κs = (
+  c .before .pre .0,
+  subst (λ (w : Vector). within headroom w ≡ true) (sym (c .negative .ensures)) (each-within headroom (within-negative (within-each headroom (c .before .args .v) (c .before .pre .1)))),
+)
 
-length-is : (c : tie.Start Inv-loop μ-loop) → length (minus (c .args .t1) (c .args .t2)) ≡ cells
-length-is c = omega (arith, length-minus (c .args .t1) (c .args .t2) (omega arith))
-
-loop-holds : tie.Need-loop-holds Inv-loop μ-loop
-loop-holds c = (omega arith, paste-zero _ 0 (minus (c .args .t1) (c .args .t2)))
-
-mul-w : tie.Need-mul-w Inv-loop μ-loop
-mul-w c = omega arith
-
-array-copy-out-w : tie.Need-array-copy-out-w Inv-loop μ-loop
-array-copy-out-w c = omega arith
-
-mul-w-2 : tie.Need-mul-w-2 Inv-loop μ-loop
-mul-w-2 c = omega arith
-
-array-copy-out-w-2 : tie.Need-array-copy-out-w-2 Inv-loop μ-loop
-array-copy-out-w-2 c = omega arith
-
-sub-w : tie.Need-sub-w Inv-loop μ-loop
-sub-w c =
-    let a = c .before .before .before in
-    differences-fit (a .before .args .t1) (a .before .args .t2) (a .loop .i) (a .before .pre .0) (a .before .pre .1)
-
-mul-w-3 : tie.Need-mul-w-3 Inv-loop μ-loop
-mul-w-3 c = omega arith
-
-array-set-from-w : tie.Need-array-set-from-w Inv-loop μ-loop
-array-set-from-w c = omega arith
-
-add-i : tie.Need-add-i Inv-loop μ-loop
-add-i c = omega arith
-
-loop-less : tie.Need-loop-less Inv-loop μ-loop
-loop-less c = omega arith
-
-loop-again : tie.Need-loop-again Inv-loop μ-loop
-loop-again c =
-    let a = c .before .before .before in
-    let s = a .before in
-    let u = s .args .t1 in
-    let v = s .args .t2 in
-    let l = length-is s in
-    let read = differences-read u v (a .loop .i) (s .pre .0) (s .pre .1) (omega arith) (omega arith) in
-    (omega arith, fill _ (minus u v) (a .loop .i) (a .loop .inv .1) read (omega arith) (omega arith))
-
-returns : tie.Need-returns Inv-loop μ-loop
-returns c = let l = length-is (c .before .before) in filled _ _ (c .before .loop .i) (c .before .loop .inv .1) (omega arith) (omega arith)
+returns : tie.Need-returns
+unfolding minus
+returns c = c .plus .ensures ∙ ap (plus (c .before .before .args .u)) (c .before .negative .ensures)
 
 pub minus-spec : {M : Type 1} → statement M
-minus-spec =
-    tie.close
-    (tie.spec
-    Inv-loop
-    μ-loop
-    loop-holds
-    mul-w
-    array-copy-out-w
-    mul-w-2
-    array-copy-out-w-2
-    sub-w
-    mul-w-3
-    array-set-from-w
-    add-i
-    loop-less
-    loop-again
-    returns)
+minus-spec = tie.close (tie.spec negative-requires plus-requires returns)

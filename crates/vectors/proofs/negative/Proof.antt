@@ -6,7 +6,8 @@ use lib.ListN.{length}
 use lib.Seq.{paste, paste-zero}
 use Rattle.definitions.specs.Limits.{cells}
 use Rattle.definitions.specs.Vector.{negative}
-use Rattle.vectors.proofs.Kit.{fill, filled, negatives-fit, negatives-read, length-negative}
+use Rattle.theory.proofs.Vector.{length-negative}
+use Rattle.vectors.proofs.Kit.{fill, filled, negatives-fit, negatives-read}
 use Rattle.vectors.proofs.negative.Statement.{statement}
 use Rattle.vectors.proofs.negative.Tie as tie
 

@@ -6,7 +6,8 @@ use lib.ListN.{length}
 use lib.Seq.{paste, paste-zero}
 use Rattle.definitions.specs.Limits.{cells}
 use Rattle.definitions.specs.Vector.{plus}
-use Rattle.vectors.proofs.Kit.{fill, filled, sums-fit, sums-read, length-plus}
+use Rattle.theory.proofs.Vector.{length-plus}
+use Rattle.vectors.proofs.Kit.{fill, filled, sums-fit, sums-read}
 use Rattle.vectors.proofs.plus.Statement.{statement}
 use Rattle.vectors.proofs.plus.Tie as tie
 
@@ -17,7 +18,7 @@ abbrev μ-loop : tie.MeasureT-loop
 μ-loop u v w₀ i₀ w i = cells - i
 
 length-is : (c : tie.Start Inv-loop μ-loop) → length (plus (c .args .t1) (c .args .t2)) ≡ cells
-length-is c = omega (arith, length-plus (c .args .t1) (c .args .t2) (omega arith))
+length-is c = omega (arith, length-plus cells (c .args .t1) (c .args .t2) (omega arith) (omega arith))
 
 loop-holds : tie.Need-loop-holds Inv-loop μ-loop
 loop-holds c = (omega arith, paste-zero _ 0 (plus (c .args .t1) (c .args .t2)))
