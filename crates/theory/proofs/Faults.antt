@@ -145,6 +145,10 @@ pub numbered-where : {P : ℕ → Type 0} (number count : ℕ) (met : ℕ → Bo
 unfolding faultWhere
 numbered-where number count met h = numbered-from number 0 count met h
 
+-- what is found has the test's number
+pub where-at : (number count : ℕ) (met : ℕ → Bool) (m p : ℕ) → faultWhere number count met ≡ At m p → m ≡ number
+where-at number count met m p e = subst (Numbered (λ k. k ≡ number)) e (numbered-where number count met refl) .number
+
 -- ---- an outcome after tests
 pub accepted-refused : {A : Type 0} {X : Type 0} {found : A} {number place : ℕ} → _≡_ {A = Outcome A} (refused number place) (accepted found) → X
 accepted-refused e = let z : _≡_ {A = ℕ} 0 1 = cc in absurd (omega arith)

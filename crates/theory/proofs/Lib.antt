@@ -1,5 +1,6 @@
 pub mod Tests
 pub mod Lists
+pub mod Turns
 pub mod Members
 pub mod Cell
 pub mod Vector

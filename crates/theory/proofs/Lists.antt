@@ -35,6 +35,7 @@ module _ {A : Type 0} where
   mem-take (suc p) u (t ∷ l) m =
       ⊎-elim (λ q. List·Memᴰ·head q) (λ q. List·Memᴰ·tail (mem-take p u l q)) (List·Memᴰ·cases-cons m)
 
+  -- .. or of the rest
   pub mem-drop : (p : ℕ) (u : A) (l : List A) → List·Memᴰ u (drop p l) → List·Memᴰ u l
   mem-drop zero u l m = m
   mem-drop (suc p) u [] m = m
@@ -47,6 +48,7 @@ module _ {A B : Type 0} where
   mem-map f {a} (x ∷ l) m =
       ⊎-elim (λ (q : a ≡ x). List·Memᴰ·head (ap f q)) (λ q. List·Memᴰ·tail (mem-map f l q)) (List·Memᴰ·cases-cons m)
 
+  -- and only these
   pub map-inv : (f : A → B) {u : B} (l : List A) → List·Memᴰ u (map f l) → (a : A) × List·Memᴰ a l × (u ≡ f a)
   map-inv f {u} [] m = absurd (List·Memᴰ·not-nil m)
   map-inv f {u} (x ∷ l) m = go (map-inv f l) (List·Memᴰ·cases-cons m)
@@ -78,16 +80,20 @@ module _ {A B C : Type 0} (f : A → B → C) (xs : List A) where
           (subst (λ (z : B). List·Memᴰ (f a b) (map (λ (y : A). f y z) xs)) q (mem-map (λ (y : A). f y b) xs k))
       go ih (inr q) = Memᴰ·append-right (map (λ (y : A). f y x) xs) (ih q)
 
+  -- and only these
   pub pairings-inv : {u : C} (ys : List B) → List·Memᴰ u (pairings f xs ys) → (a : A) × (b : B) × List·Memᴰ a xs × List·Memᴰ b ys × (u ≡ f a b)
   pairings-inv {u} [] m = absurd (List·Memᴰ·not-nil m)
   pairings-inv {u} (x ∷ ys) m = go (pairings-inv ys) (List·Memᴰ·append-cases (map (λ (y : A). f y x) xs) m)
     where
-      go : (List·Memᴰ u (pairings f xs ys) → (a : A) × (b : B) × List·Memᴰ a xs × List·Memᴰ b ys × (u ≡ f a b)) → List·Memᴰ u (map (λ (y : A). f y x) xs) ⊎ List·Memᴰ u (pairings f xs ys) → (a : A) × (b : B) × List·Memᴰ a xs × List·Memᴰ b (x ∷ ys) × (u ≡ f a b)
+      go : (List·Memᴰ u (pairings f xs ys) → (a : A) × (b : B) × List·Memᴰ a xs × List·Memᴰ b ys × (u ≡ f a b))
+          → List·Memᴰ u (map (λ (y : A). f y x) xs) ⊎ List·Memᴰ u (pairings f xs ys)
+          → (a : A) × (b : B) × List·Memᴰ a xs × List·Memᴰ b (x ∷ ys) × (u ≡ f a b)
       go ih (inl q) = let r = map-inv (λ (y : A). f y x) xs q in (r .0, x, r .1, List·Memᴰ·head refl, r .2)
       go ih (inr q) = let r = ih q in (r .0, r .1, r .2, List·Memᴰ·tail (r .3), r .4)
 
 -- ---- numbers in a row
 
+-- how many they are
 pub range-length : (start count : ℕ) → length (range start count) ≡ count
 unfolding range
 range-length start zero = refl
@@ -103,6 +109,7 @@ range-mem start (suc count) c h k = go (range-mem (suc start) count c) (ℕ-disc
     go ih (yes q) = List·Memᴰ·head q
     go ih (no q) = List·Memᴰ·tail (ih (omega arith) (omega arith))
 
+-- and only these
 pub range-inv : (start count c : ℕ) → List·Memᴰ c (range start count) → (start ≤ c) × (c < start + count)
 unfolding range
 range-inv start zero c m = absurd (List·Memᴰ·not-nil m)
@@ -111,6 +118,7 @@ range-inv start (suc count) c m =
     (λ q. let r = range-inv (suc start) count c q in (omega (arith, r .0), omega (arith, r .1)))
     (List·Memᴰ·cases-cons m)
 
+-- the number at a place
 pub getD-range : (start count i d : ℕ) → i < count → getD (range start count) i d ≡ start + i
 unfolding range
 getD-range start zero i d h = absurd (not-suc-le-zero h)
@@ -129,6 +137,7 @@ le-times zero n h = omega arith
 le-times (suc k) n h = omega (arith, suc-mul k n, le-times k n h)
 
 module _ {A : Type 0} where
+  -- how many rows
   pub chunks-length : (n count : ℕ) (xs : List A) → length (chunks n count xs) ≡ count
   unfolding chunks
   chunks-length n zero xs = refl
@@ -157,6 +166,7 @@ module _ {A : Type 0} where
       ap length (chunks-at n count i xs h)
       ∙ length-take-le n (drop (i * n) xs) (omega (arith, length-drop (i * n) xs, row-end i count n h))
 
+  -- .. as a member
   pub chunks-long : (n count : ℕ) (xs : List A) → count * n ≤ length xs → (r : List A) → List·Memᴰ r (chunks n count xs) → length r ≡ n
   chunks-long n count xs h r m =
       let q = mem-index r (chunks n count xs) [] m in
@@ -192,15 +202,18 @@ module _ {A : Type 0} where
       ∙ ap (λ (x : List (List A)). r ∷ x) (chunks-concat n l rest (λ s m. h s (List·Memᴰ·tail m)))
 
   -- so an area filled with rows has these rows
-  pub chunks-filled : (n size : ℕ) (blank : A) (l : List (List A)) → ((r : List A) → List·Memᴰ r l → length r ≡ n) → chunks n (length l) (filled blank size (concat l)) ≡ l
+  pub chunks-filled : (n size : ℕ) (blank : A) (l : List (List A)) → ((r : List A) → List·Memᴰ r l → length r ≡ n)
+      → chunks n (length l) (filled blank size (concat l)) ≡ l
   unfolding filled
   chunks-filled n size blank l h = chunks-concat n l (replicate (size - length (concat l)) blank) h
 
+  -- the rows of two tables
   pub concat-append : (a b : List (List A)) → concat (a ++ b) ≡ concat a ++ concat b
   unfolding concat
   concat-append [] b = refl
   concat-append (r ∷ a) b = ap (λ (x : List A). r ++ x) (concat-append a b) ∙ sym (append-assoc r (concat a) (concat b))
 
+  -- how many numbers the rows have
   pub length-concat : (n : ℕ) (l : List (List A)) → ((r : List A) → List·Memᴰ r l → length r ≡ n) → length (concat l) ≡ length l * n
   unfolding concat
   length-concat n [] h = sym (zero-mul n)
