@@ -42,12 +42,12 @@ pub padded-within : {limit : ℕ} {numbers : List ℤ} → Within limit numbers 
 unfolding padded
 padded-within {limit} {numbers} h = each-append h (zeros-within limit (cells - length numbers))
 
-each-take : {A : Type 0} {P : A → Type 0} (k : ℕ) {xs : List A} → Each P xs → Each P (take k xs)
+pub each-take : {A : Type 0} {P : A → Type 0} (k : ℕ) {xs : List A} → Each P xs → Each P (take k xs)
 each-take zero h = each-nil
 each-take (suc k) each-nil = each-nil
 each-take (suc k) (each-cons p h) = each-cons p (each-take k h)
 
-each-drop : {A : Type 0} {P : A → Type 0} (k : ℕ) {xs : List A} → Each P xs → Each P (drop k xs)
+pub each-drop : {A : Type 0} {P : A → Type 0} (k : ℕ) {xs : List A} → Each P xs → Each P (drop k xs)
 each-drop zero h = h
 each-drop (suc k) each-nil = each-nil
 each-drop (suc k) (each-cons p h) = each-drop k h

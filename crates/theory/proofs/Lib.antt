@@ -36,3 +36,4 @@ pub mod Accepted
 pub mod ListCall
 pub mod SplitCall
 pub mod CheckCall
+pub mod Rows
