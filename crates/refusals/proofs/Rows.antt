@@ -1,0 +1,66 @@
+-- Rows of a lent area: how many there are, where each stands, and what holds of each (Specification 7.3). Assumes nothing.
+use mathlib.Core.Path.{_≡_, ap, _∙_}
+use mathlib.Core.Bool.{true}
+use mathlib.Core.List.{List, []}
+use Prim.Native.Nat.{ℕ, zero, suc, _+_, _-_, _*_, _/_, _≤_, _<_}
+use native.Mathlib.Nat.{div-mul-le-self}
+use native.Mathlib.Omega.{arith}
+use lib.IntN.{ℤ, pos, natAbs}
+use lib.ListN.{length, getD, take, drop, replicate}
+use Rattle.definitions.specs.Limits.{cells}
+use Rattle.definitions.specs.Vector.{padded, within}
+use Rattle.definitions.specs.Group.{Exchange, isExchange}
+use Rattle.definitions.specs.Lent.{rowsOf, vectorsOf}
+use Rattle.theory.proofs.Lists.{chunks-at, chunks-length, getD-map, mem-drop, mem-take, row-end}
+use Rattle.theory.proofs.Members.{each-append, each-cons, each-member, each-nil, each-of, place-member}
+use Rattle.theory.proofs.Bounds.{Within, each-within, within-each}
+use Rattle.theory.proofs.Exchanges.{cell-at, valid-of}
+use Rattle.vectors.specs.Bounds.{NamesCells}
+use Rattle.refusals.specs.Sent.{AllExchanges}
+
+-- a row of an area ends within it
+pub row-room : (size n p : ℕ) → p < size / n → p * n + n ≤ size
+row-room size n p h = omega (arith, row-end p (size / n) n h, div-mul-le-self size n)
+
+module _ {A : Type 0} where
+  -- how many rows an area has
+  pub rows-count : (n : ℕ) (numbers : List A) → length (rowsOf n numbers) ≡ length numbers / n
+  unfolding rowsOf
+  rows-count n numbers = chunks-length n (length numbers / n) numbers
+
+  -- where row p stands
+  pub rows-at : (n p : ℕ) (numbers : List A) → p < length numbers / n → getD (rowsOf n numbers) p [] ≡ take n (drop (p * n) numbers)
+  unfolding rowsOf
+  rows-at n p numbers h = chunks-at n (length numbers / n) p numbers h
+
+-- row p as a vector
+pub vectors-at : (n p : ℕ) (numbers : List ℤ) → p < length numbers / n → getD (vectorsOf n numbers) p [] ≡ padded (take n (drop (p * n) numbers))
+unfolding vectorsOf
+vectors-at n p numbers h =
+    let l : p < length (rowsOf n numbers) = omega (arith, rows-count n numbers) in
+    getD-map padded (rowsOf n numbers) p [] [] l ∙ ap padded (rows-at n p numbers h)
+
+-- zeros keep every limit
+zeros-within : (limit k : ℕ) → Within limit (replicate k (pos 0))
+zeros-within limit zero = each-nil
+zeros-within limit (suc k) = let h : natAbs (pos 0) ≤ limit = omega arith in each-cons h (zeros-within limit k)
+
+-- the limit that the numbers of an area keep is kept by each of its rows
+pub vectors-within : (limit n p : ℕ) (numbers : List ℤ) → p < length numbers / n → within limit numbers ≡ true → within limit (getD (vectorsOf n numbers) p []) ≡ true
+unfolding padded
+vectors-within limit n p numbers h e =
+    let all = within-each limit numbers e in
+    let part = take n (drop (p * n) numbers) in
+    let row = each-of part (λ x m. each-member all (mem-drop (p * n) x numbers (mem-take n x (drop (p * n) numbers) m))) in
+    rw (vectors-at n p numbers h) (each-within limit (each-append row (zeros-within limit (cells - length part))))
+
+-- an exchange names cells of a vector
+pub names-cells : (n : ℕ) (s : Exchange) → n ≤ cells → isExchange n s ≡ true → NamesCells s
+names-cells n s h e =
+    let long = valid-of n s e .long in
+    (omega arith, λ j l. let k = cell-at n s e j (omega arith) in (omega arith, omega arith))
+
+-- and so does each row of those that were sent
+pub sent-names : (n p : ℕ) (numbers : List ℕ) → n ≤ cells → p < length numbers / n → AllExchanges n (rowsOf n numbers) → NamesCells (getD (rowsOf n numbers) p [])
+sent-names n p numbers h l all =
+    names-cells n (getD (rowsOf n numbers) p []) h (all (getD (rowsOf n numbers) p []) (place-member (rowsOf n numbers) [] p (omega (arith, rows-count n numbers))))

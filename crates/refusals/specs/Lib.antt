@@ -1,0 +1,2 @@
+-- What the tests ask of their callers.
+pub mod Sent

@@ -1,0 +1,22 @@
+// The limits of Specification 6 that the tests use, each named once.
+
+// 7: the greatest absolute value of an entry that is sent.
+pub const ENTRY_LIMIT: u32 = 10_000;
+
+// 10: the greatest order of a group.
+pub const GROUP_LIMIT: usize = 1_152;
+
+// 6: the most rows that a Check takes.
+pub const LIST_LIMIT: usize = 128;
+
+// 6: the most generators.
+pub const GENERATOR_LIMIT: usize = 64;
+
+// 6: the most exchanges.
+pub const EXCHANGE_LIMIT: usize = 8;
+
+// 14: the greatest absolute value of an entry of a vector to split.
+pub const SPLIT_LIMIT: u32 = 1_000_000;
+
+// The numbers that a piece takes in the pieces area.
+pub const PIECE_WIDTH: usize = 4;
