@@ -1,0 +1,4 @@
+pub mod Facts
+pub mod Turns
+pub mod FirstRows
+pub mod Joined

@@ -1,0 +1,2 @@
+-- What the completion on lent areas means by the definitions.
+pub mod Machine
