@@ -34,7 +34,7 @@ unfolding padded
 padded-length numbers h =
     omega (arith, length-append numbers (replicate (cells - length numbers) (pos 0)), length-replicate (cells - length numbers) (pos 0))
 
-zeros-within : (limit k : ℕ) → Within limit (replicate k (pos 0))
+pub zeros-within : (limit k : ℕ) → Within limit (replicate k (pos 0))
 zeros-within limit zero = each-nil
 zeros-within limit (suc k) = let h : natAbs (pos 0) ≤ limit = omega arith in each-cons h (zeros-within limit k)
 

@@ -1,0 +1,5 @@
+-- The proofs of the lent calls.
+pub mod Tests
+pub mod Tables
+pub mod Ends
+pub mod Steps
