@@ -12,7 +12,7 @@ use Rattle.definitions.specs.Lists.{concat}
 use Rattle.definitions.specs.Vector.{Vector, padded}
 use Rattle.definitions.specs.Group.{Exchange}
 use Rattle.definitions.specs.Completion.{Completion, running, stopped, completed, finalRows, sumCount}
-use Rattle.definitions.specs.Split.{Piece, Splitting, placedOrbits, splitting, written}
+use Rattle.definitions.specs.Split.{Piece, placedOrbits, splitting, written}
 use Rattle.definitions.specs.Lent.{filled, vectorsOf, numbersOf, Order, generatorsOf, listRows, tableOf}
 use Rattle.definitions.specs.Refusals.{Outcome, accepted, refused, firstFault, unlessFault, cellsFault, listSizeFault, splitSizeFault, checkSizeFault, orderFault, splitFault, rowsFault, wholenessFault}
 

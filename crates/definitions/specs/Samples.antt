@@ -5,7 +5,7 @@ use Prim.Native.Nat.{ℕ, _*_, _-_}
 use lib.IntN.{ℤ, pos, negℤ}
 use lib.ListN.{length, replicate}
 use Rattle.definitions.specs.declared.Answer.{Answer}
-use Rattle.definitions.specs.declared.Answer.the-variants.{Moves, Split, Passed, Refused}
+use Rattle.definitions.specs.declared.Answer.the-variants.{Moves, Split, Refused}
 use Rattle.definitions.specs.Limits.{groupLimit, listLimit, lentPieces, pieceWidth}
 use Rattle.definitions.specs.Lent.{Order}
 use Rattle.definitions.specs.Calls.{listCall, splitCall, checkCall}

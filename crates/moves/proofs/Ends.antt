@@ -5,22 +5,21 @@ use Prim.Native.Nat.{ℕ}
 use native.Mathlib.Omega.{arith}
 use lib.IntN.{ℤ, pos}
 use lib.ListN.{length, replicate, length-replicate}
-use Rattle.definitions.specs.declared.Answer.{Answer}
 use Rattle.definitions.specs.declared.Answer.the-variants.{Moves, Refused}
 use Rattle.definitions.specs.declared.Fault.{Fault}
 use Rattle.definitions.specs.declared.Fault.the-variants.{None, At}
 use Rattle.definitions.specs.Lists.{concat}
 use Rattle.definitions.specs.Group.{Exchange}
-use Rattle.definitions.specs.Lent.{Order, chunks, filled, numbersOf, listRows, tableOf, generatorsOf}
+use Rattle.definitions.specs.Lent.{Order, chunks, filled, numbersOf, tableOf, generatorsOf}
 use Rattle.definitions.specs.Refusals.{Outcome, accepted, refused, firstFault, unlessFault, cellsFault, listSizeFault, orderFault}
-use Rattle.definitions.specs.Calls.{Listing, ListEnd, listing, listEnd, listCall}
+use Rattle.definitions.specs.Calls.{Listing, listing, listEnd, listCall}
 use Rattle.theory.proofs.Areas.{filled-nothing}
 use Rattle.theory.proofs.Faults.{accepted-refused, tests-none}
 use Rattle.theory.proofs.ListCall.{list-kept}
 use Rattle.moves.specs.declared.Listed.{Listed}
 use Rattle.moves.specs.declared.Listed.the-variants as listed
 use Rattle.moves.specs.Found.{listingWith, listedOf, Finds}
-use Rattle.moves.specs.Promise.{ListAccepted, ListZero, ListPromise}
+use Rattle.moves.specs.Promise.{ListPromise}
 use Rattle.moves.proofs.Tests.{first-append, met-first, unmet-first, unmet-second}
 
 -- ---- outcomes

@@ -1,5 +1,5 @@
 -- Steps 1 to 5 on a list area, with the table of a group (Specification 3). Assumes nothing.
-use mathlib.Core.Path.{_≡_, refl, sym, _∙_, ap, ap₂, subst}
+use mathlib.Core.Path.{_≡_, sym, _∙_, ap, ap₂, subst}
 use mathlib.Core.Bool.{true}
 use mathlib.Core.List.{List, []}
 use Prim.Native.Nat.{ℕ, _*_, _≤_}
@@ -11,10 +11,9 @@ use Rattle.definitions.specs.Limits.{groupLimit, listLimit}
 use Rattle.definitions.specs.Lists.{concat}
 use Rattle.definitions.specs.Vector.{Vector, within}
 use Rattle.definitions.specs.Group.{Exchange}
-use Rattle.definitions.specs.Completion.{completed, finalRows, running, stopped}
-use Rattle.definitions.specs.Completion as Defined
+use Rattle.definitions.specs.Completion.{completed, finalRows, running}
 use Rattle.definitions.specs.Lent.{chunks, filled, vectorsOf, numbersOf, listRows}
-use Rattle.definitions.specs.Refusals.{Outcome, accepted, refused}
+use Rattle.definitions.specs.Refusals.{accepted}
 use Rattle.definitions.specs.Calls.{Listing, listingOf}
 use Rattle.theory.proofs.Lists.{chunks-length}
 use Rattle.theory.proofs.Bounds.{each-within}
@@ -25,7 +24,6 @@ use Rattle.theory.proofs.Rows.{rows-count}
 use Rattle.vectors.specs.Bounds.{headroom}
 use Rattle.reduction.specs.Areas.{rowsAt}
 use Rattle.completion.specs.declared.State.{State}
-use Rattle.completion.specs.declared.Completion.{Completion}
 use Rattle.completion.specs.declared.Completion.the-variants as case
 use Rattle.completion.specs.Machine.{stateIn, Areas, After}
 use Rattle.moves.specs.declared.Listed.the-variants as listed

@@ -1,17 +1,16 @@
 -- A group area that holds the table of an accepted order (Specification 2.5). Assumes nothing.
-use mathlib.Core.Path.{_≡_, refl, sym, _∙_, ap, ap₂, subst}
-use mathlib.Core.List.{List, [], _∷_, List·Memᴰ}
-use Prim.Native.Nat.{ℕ, _*_, _/_, _≤_, _<_, min}
+use mathlib.Core.Path.{_≡_, sym, _∙_, ap₂, subst}
+use mathlib.Core.List.{List, List·Memᴰ}
+use Prim.Native.Nat.{ℕ, _*_, _/_, _≤_, min}
 use native.Mathlib.Omega.{arith}
 use native.Mathlib.Nat.{mul-le-mul-right, div-mul-le-self}
-use lib.IntN.{ℤ}
 use lib.ListN.{length}
 use Rattle.definitions.specs.declared.Fault.the-variants.{None}
 use Rattle.definitions.specs.Limits.{entryLimit, groupLimit}
 use Rattle.definitions.specs.Lists.{concat}
 use Rattle.definitions.specs.Vector.{zeroVector}
-use Rattle.definitions.specs.Group.{Exchange, isExchange}
-use Rattle.definitions.specs.Lent.{Order, chunks, filled, vectorsOf, exchangesOf, generatorsOf, groupRows, tableOf}
+use Rattle.definitions.specs.Group.{Exchange}
+use Rattle.definitions.specs.Lent.{Order, chunks, filled, exchangesOf, generatorsOf, groupRows, tableOf}
 use Rattle.definitions.specs.Refusals.{cellsFault, orderFault}
 use Rattle.theory.proofs.Members.{Each}
 use Rattle.theory.proofs.Bounds.{Within}
@@ -19,8 +18,6 @@ use Rattle.theory.proofs.GroupTable.{area-rows, table-valid}
 use Rattle.theory.proofs.Accepted.{cells-none, order-none, order-symmetric, order-generators}
 use Rattle.theory.proofs.Symmetric.{Symmetric}
 use Rattle.theory.proofs.Completion.{table-positive}
-use Rattle.reduction.specs.Areas.{Table}
-use Rattle.completion.specs.Machine.{Ordered}
 use Rattle.moves.specs.Found.{Grouped}
 
 -- the rows of an area in use are within it

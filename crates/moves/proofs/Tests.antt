@@ -1,20 +1,18 @@
 -- Tests one after the other (Specification 7.1), and what each group of tests finds. Assumes nothing.
 use mathlib.Core.Path.{_≡_, refl, sym, _∙_, ap, ap₂, subst}
-use mathlib.Core.Bool.{Bool, true, false, not}
+use mathlib.Core.Bool.{Bool, not}
 use mathlib.Core.List.{List, [], _∷_, _++_}
-use Prim.Native.Nat.{ℕ, _≤_, _<_}
+use Prim.Native.Nat.{ℕ}
 use native.Mathlib.Omega.{arith}
 use borrow.Author.Tests.{le-leb, lt-leb}
 use lib.Dec.{leb}
-use lib.IntN.{ℤ, pos}
+use lib.IntN.{ℤ}
 use lib.ListN.{length, getD}
 use Rattle.definitions.specs.declared.Fault.{Fault}
 use Rattle.definitions.specs.declared.Fault.the-variants.{None, At}
-use Rattle.definitions.specs.Lists.{concat}
-use Rattle.definitions.specs.Group.{Exchange, groupTable, isExchange}
-use Rattle.definitions.specs.Lent.{Order, filled, rowsOf, vectorsOf, exchangesOf, generatorsOf, groupRows, tableOf}
+use Rattle.definitions.specs.Group.{Exchange, groupTable}
+use Rattle.definitions.specs.Lent.{Order, rowsOf, vectorsOf, exchangesOf, generatorsOf, groupRows, tableOf}
 use Rattle.definitions.specs.Refusals.{firstFault, faultIf, faultWhere, leavesGenerators, orderFault}
-use Rattle.group.specs.declared.Built.{Built}
 use Rattle.group.specs.declared.Built.the-variants as built
 use Rattle.group.specs.Answer.{sentFault, builtOf, areaOf}
 use Rattle.group.proofs.Answers.{built-order, built-invalid, built-large}

@@ -8,7 +8,7 @@ ghost use Rattle.definitions.specs.declared.Fault.the-variants.{None};
 ghost use Rattle.definitions.specs.Limits.{cells};
 ghost use Rattle.definitions.specs.Vector.{within};
 ghost use Rattle.definitions.specs.Group.{groupTable};
-ghost use Rattle.definitions.specs.Lent.{chunks, rowsOf, groupRows, tableOf, generatorsOf, listRows};
+ghost use Rattle.definitions.specs.Lent.{chunks, rowsOf, groupRows, tableOf};
 ghost use Rattle.definitions.specs.Refusals.{firstFault, cellsFault, listSizeFault, orderFault, unlessFault};
 ghost use Rattle.definitions.specs.Calls.{listing};
 ghost use Rattle.vectors.specs.Bounds.{headroom};

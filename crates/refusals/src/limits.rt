@@ -1,12 +1,12 @@
-// The limits of Specification 6 that the tests use, each named once.
+// The limits of Specification 6, each named once in code; the number of cells is in the crate `vectors`.
 
-// 7: the greatest absolute value of an entry that is sent.
+// 7 and 12: the greatest absolute value of an entry that is sent or stored.
 pub const ENTRY_LIMIT: u32 = 10_000;
 
 // 10: the greatest order of a group.
 pub const GROUP_LIMIT: usize = 1_152;
 
-// 6: the most rows that a Check takes.
+// 13: the most list rows in use; 6: the most rows that a Check takes.
 pub const LIST_LIMIT: usize = 128;
 
 // 6: the most generators.

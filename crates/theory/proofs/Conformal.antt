@@ -4,7 +4,6 @@ use mathlib.Core.Path.{_≡_, sym, _∙_, ap, subst}
 use mathlib.Core.List.{List, [], _∷_, _++_, map}
 use Prim.Native.Nat.{ℕ, zero, _+_}
 use native.Mathlib.Omega.{arith}
-use native.Mathlib.Nat as NatL
 use lib.ListN.{length}
 use Rattle.definitions.specs.Limits.{cells}
 use Rattle.definitions.specs.Vector.{Vector, negative, plus, total, weight}

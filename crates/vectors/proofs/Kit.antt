@@ -17,7 +17,7 @@ use lib.ListN.{length, take, drop, getD, set, replicate, length-map, length-drop
 use lib.Seq.{drop-cons, take-all, length-take-le, getD-take, getD-drop, paste, paste-suc}
 use Rattle.definitions.specs.Limits.{cells}
 use Rattle.definitions.specs.Lists.{every}
-use Rattle.definitions.specs.Vector.{Vector, padded, plus, minus, negative, weight, within, cellBelow, below, equalCell, equal, greater}
+use Rattle.definitions.specs.Vector.{Vector, padded, plus, negative, weight, within, cellBelow, below, equalCell, equal, greater}
 use Rattle.definitions.specs.Group.{Exchange}
 use Rattle.definitions.specs.Split.{cellTimes, timesUpTo}
 use Rattle.vectors.specs.Bounds.{headroom}

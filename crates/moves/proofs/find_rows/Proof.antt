@@ -1,10 +1,10 @@
 -- `find_rows` meets its contract: the list area is cleared, and then steps 1 to 5. Assumes nothing.
-use mathlib.Core.Path.{_≡_, sym, _∙_, ap}
+use mathlib.Core.Path.{_≡_, _∙_, ap}
 use mathlib.Core.List.{[]}
 use Prim.Native.Nat.{ℕ, _/_, min}
 use native.Mathlib.Omega.{arith}
 use lib.IntN.{pos}
-use lib.ListN.{length, length-replicate}
+use lib.ListN.{length}
 use Rattle.definitions.specs.Limits.{listLimit}
 use Rattle.definitions.specs.Lent.{filled, listRows}
 use Rattle.theory.proofs.Areas.{length-filled}

@@ -1,7 +1,6 @@
 -- `find_sized` meets its contract: 7 to 11, and then the rows. Assumes nothing.
 use mathlib.Core.Path.{_≡_, sym, _∙_}
 use Prim.Native.Nat.{ℕ}
-use native.Mathlib.Omega.{arith}
 use lib.ListN.{length}
 use Rattle.definitions.specs.declared.Fault.the-variants.{None}
 use Rattle.definitions.specs.Lent.{Order, tableOf}

@@ -1,0 +1,2 @@
+-- What the timed call says.
+pub mod Timed
