@@ -4,4 +4,3 @@ pub mod Lent
 pub mod Marking
 pub mod Passes
 pub mod Positions
-pub mod Stored

@@ -14,9 +14,8 @@ use Rattle.definitions.specs.Lent.{rowsOf, vectorsOf}
 use Rattle.theory.proofs.Lists.{chunks-at, chunks-length, getD-map, mem-drop, mem-take, row-end}
 use Rattle.theory.proofs.Members.{each-append, each-cons, each-member, each-nil, each-of, place-member}
 use Rattle.theory.proofs.Bounds.{Within, each-within, within-each}
-use Rattle.theory.proofs.Exchanges.{cell-at, valid-of}
+use Rattle.theory.proofs.Exchanges.{AllExchanges, cell-at, valid-of}
 use Rattle.vectors.specs.Bounds.{NamesCells}
-use Rattle.refusals.specs.Sent.{AllExchanges}
 
 -- a row of an area ends within it
 pub row-room : (size n p : ℕ) → p < size / n → p * n + n ≤ size

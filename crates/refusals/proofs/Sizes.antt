@@ -21,10 +21,3 @@ unfolding orderFits
 generators-few order e =
     rows-few generatorLimit (order .n) (length (order .generators))
     (and-true-left (wholeRowsUpTo generatorLimit (order .n) (length (order .generators))) (wholeRowsUpTo exchangeLimit (order .n) (length (order .exchanges))) e)
-
--- the exchanges are at most theirs
-pub exchanges-few : (order : Order) → orderFits order ≡ true → length (order .exchanges) / order .n ≤ exchangeLimit
-unfolding orderFits
-exchanges-few order e =
-    rows-few exchangeLimit (order .n) (length (order .exchanges))
-    (and-true-right (wholeRowsUpTo generatorLimit (order .n) (length (order .generators))) (wholeRowsUpTo exchangeLimit (order .n) (length (order .exchanges))) e)

@@ -10,8 +10,7 @@ use Rattle.definitions.specs.Group.{Exchange, groupTable}
 use Rattle.definitions.specs.Lent.{rowsOf, groupRows}
 use Rattle.group.specs.declared.Built.{Built}
 use Rattle.group.specs.Answer.{sentFault, builtOf, areaOf}
-use Rattle.group.proofs.Answers.{built-order}
-use Rattle.refusals.proofs.Passed.{all-exchanges}
+use Rattle.group.proofs.Answers.{all-valid, built-order}
 use Rattle.moves.specs.Found.{testedOf}
 use Rattle.moves.proofs.Tests.{tabled-invalid, tabled-large, tabled-order}
 use Rattle.moves.proofs.Tables.{rows-inside}
@@ -79,7 +78,7 @@ leaving-fault-requires : tie.Need-leaving-fault-requires
 leaving-fault-requires c κs =
     let t = c .before .before .before .before .before in
     let s = start t in
-    (s .pre .0, (s .pre .1, all-exchanges (s .args .n) (sent s) (built-order (s .args .n) (limit s) (sent s) (table s) _ (sym (built-is t) ∙ c .before .built2 .given .1) .0)))
+    (s .pre .0, (s .pre .1, all-valid (s .args .n) (sent s) (built-order (s .args .n) (limit s) (sent s) (table s) _ (sym (built-is t) ∙ c .before .built2 .given .1) .0)))
 
 unless-met-requires : tie.Need-unless-met-requires
 unless-met-requires c κs = search needs

@@ -1,2 +1,0 @@
--- What the tests ask of their callers.
-pub mod Sent
