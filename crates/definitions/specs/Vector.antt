@@ -95,7 +95,7 @@ equal (x ∷ u) (y ∷ v) = let rest = equal u v in equalCell x y && rest
 unfoldable pub isMember : Vector → List Vector → Bool
 isMember v vectors = any (λ u. equal u v) vectors
 
--- 2.6: u is lexicographically greater than v
+-- 2.1: u is lexicographically greater than v
 unfoldable pub greater : (u v : Vector) → Bool
 greater [] v = false
 greater (x ∷ u) [] = false

@@ -14,13 +14,12 @@ use Rattle.definitions.specs.Lent.{Order, chunks, filled, numbersOf, tableOf, g
 use Rattle.definitions.specs.Refusals.{Outcome, accepted, refused, firstFault, unlessFault, cellsFault, listSizeFault, orderFault}
 use Rattle.definitions.specs.Calls.{Listing, listing, listEnd, listCall}
 use Rattle.theory.proofs.Areas.{filled-nothing}
-use Rattle.theory.proofs.Faults.{accepted-refused, tests-none}
+use Rattle.theory.proofs.Faults.{accepted-refused, first-append, met-first, tests-none, unmet-first, unmet-second}
 use Rattle.theory.proofs.ListCall.{list-kept}
 use Rattle.moves.specs.declared.Listed.{Listed}
 use Rattle.moves.specs.declared.Listed.the-variants as listed
 use Rattle.moves.specs.Found.{listingWith, listedOf, Finds}
 use Rattle.moves.specs.Promise.{ListPromise}
-use Rattle.moves.proofs.Tests.{first-append, met-first, unmet-first, unmet-second}
 
 -- ---- outcomes
 listed-refused : {number place : ℕ} (o : Outcome Listing) → listed.Refused number place ≡ listedOf o → o ≡ refused number place

@@ -16,38 +16,10 @@ use Rattle.definitions.specs.Refusals.{firstFault, faultIf, faultWhere, leavesG
 use Rattle.group.specs.declared.Built.the-variants as built
 use Rattle.group.specs.Answer.{sentFault, builtOf, areaOf}
 use Rattle.group.proofs.Answers.{built-order, built-invalid, built-large}
-use Rattle.theory.proofs.Faults.{first-here, first-next}
+use Rattle.theory.proofs.Faults.{first-append, first-nested, met-first, unmet-first, unmet-second}
 use Rattle.moves.specs.declared.Tested.{Tested}
 use Rattle.moves.specs.declared.Tested.the-variants as tested
 use Rattle.moves.specs.Found.{generatorsFault, groupFault, testedOf, Tabled}
-
--- ---- lists of tests
-first-one : (fault : Fault) → firstFault (fault ∷ []) ≡ fault
-unfolding firstFault
-first-one None = refl
-first-one (At number place) = refl
-
-pub first-append : (fs gs : List Fault) → firstFault (fs ++ gs) ≡ firstFault (firstFault fs ∷ gs)
-unfolding firstFault
-first-append [] gs = refl
-first-append (None ∷ fs) gs = first-append fs gs
-first-append (At number place ∷ fs) gs = refl
-
-first-nested : (fault : Fault) (fs : List Fault) → firstFault (fault ∷ fs) ≡ firstFault (fault ∷ firstFault fs ∷ [])
-unfolding firstFault
-first-nested None fs = sym (first-one (firstFault fs))
-first-nested (At number place) fs = refl
-
--- the first test is met
-pub met-first : {fault : Fault} (number place : ℕ) (fs : List Fault) → fault ≡ At number place → At number place ≡ firstFault (fault ∷ fs)
-met-first number place fs e = sym (ap (λ (f : Fault). firstFault (f ∷ fs)) e ∙ first-here number place fs)
-
--- it is not met, and then it is the other tests that count
-pub unmet-first : {fault : Fault} (fs : List Fault) → fault ≡ None → firstFault fs ≡ firstFault (fault ∷ fs)
-unmet-first fs e = sym (ap (λ (f : Fault). firstFault (f ∷ fs)) e ∙ first-next fs)
-
-pub unmet-second : {fault : Fault} (second : Fault) → fault ≡ None → second ≡ firstFault (fault ∷ second ∷ [])
-unmet-second second e = sym (first-one second) ∙ unmet-first (second ∷ []) e
 
 -- ---- 7 to 11, in two parts
 pub order-tests : (order : Order) (groupSize : ℕ)

@@ -61,11 +61,9 @@ fn rows_up_to(limit: usize, width: usize, size: usize) -> usize
 fn size_fault(n: usize, generators: &[i32], exchanges: &[u8], list: usize, group: usize) -> Fault
     ensures { λ r. ⌜ r ≡ firstFault (cellsFault n ∷ listSizeFault (record { n = n; generators = now (generators .entry); exchanges = now (exchanges .entry) }) list group ∷ []) ⌝ }
 {
-    let fault = refusals::cells_fault(n);
-    match fault {
-        Fault::At { number, place } => Fault::At { number, place },
-        Fault::None => refusals::list_size_fault(n, generators, exchanges, list, group),
-    }
+    let cells = refusals::cells_fault(n);
+    let sizes = refusals::list_size_fault(n, generators, exchanges, list, group);
+    refusals::first_met(cells, sizes)
 }
 
 // Refusals 7 and 8 (Specification 7.2).
@@ -73,11 +71,9 @@ fn generators_fault(n: usize, generators: &[i32]) -> Fault
     requires { ⌜ (1 ≤ n) × (n ≤ cells) ⌝ }
     ensures { λ r. ⌜ r ≡ generatorsFault n (now (generators .entry)) ⌝ }
 {
-    let fault = refusals::past_fault(generators, 7, ENTRY_LIMIT);
-    match fault {
-        Fault::At { number, place } => Fault::At { number, place },
-        Fault::None => refusals::zero_fault(n, generators),
-    }
+    let past = refusals::past_fault(generators, 7, ENTRY_LIMIT);
+    let zero = refusals::zero_fault(n, generators);
+    refusals::first_met(past, zero)
 }
 
 // The order `g` of the group, unless a test was met.

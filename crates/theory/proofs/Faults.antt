@@ -3,7 +3,7 @@
 use mathlib.Core.Path.{_≡_, refl, sym, _∙_, ap, subst}
 use mathlib.Core.Logic.{_↔_, _⊎_, inl, inr}
 use mathlib.Core.Bool.{Bool, true, false, cond}
-use mathlib.Core.List.{List, _∷_, []}
+use mathlib.Core.List.{List, _∷_, [], _++_}
 use Prim.Native.Nat.{ℕ, zero, suc, _+_, _-_, _≤_, _<_}
 use native.Mathlib.Decide.{ℕ-discrete}
 use native.Mathlib.Numerals.{add-one}
@@ -54,6 +54,34 @@ first-next faults = refl
 pub first-here : (number place : ℕ) (faults : List Fault) → firstFault (At number place ∷ faults) ≡ At number place
 unfolding firstFault
 first-here number place faults = refl
+
+-- ---- tests one after the other
+first-one : (fault : Fault) → firstFault (fault ∷ []) ≡ fault
+unfolding firstFault
+first-one None = refl
+first-one (At number place) = refl
+
+pub first-append : (fs gs : List Fault) → firstFault (fs ++ gs) ≡ firstFault (firstFault fs ∷ gs)
+unfolding firstFault
+first-append [] gs = refl
+first-append (None ∷ fs) gs = first-append fs gs
+first-append (At number place ∷ fs) gs = refl
+
+pub first-nested : (fault : Fault) (fs : List Fault) → firstFault (fault ∷ fs) ≡ firstFault (fault ∷ firstFault fs ∷ [])
+unfolding firstFault
+first-nested None fs = sym (first-one (firstFault fs))
+first-nested (At number place) fs = refl
+
+-- the first test is met
+pub met-first : {fault : Fault} (number place : ℕ) (fs : List Fault) → fault ≡ At number place → At number place ≡ firstFault (fault ∷ fs)
+met-first number place fs e = sym (ap (λ (f : Fault). firstFault (f ∷ fs)) e ∙ first-here number place fs)
+
+-- it is not met, and then it is the other tests that count
+pub unmet-first : {fault : Fault} (fs : List Fault) → fault ≡ None → firstFault fs ≡ firstFault (fault ∷ fs)
+unmet-first fs e = sym (ap (λ (f : Fault). firstFault (f ∷ fs)) e ∙ first-next fs)
+
+pub unmet-second : {fault : Fault} (second : Fault) → fault ≡ None → second ≡ firstFault (fault ∷ second ∷ [])
+unmet-second second e = sym (first-one second) ∙ unmet-first (second ∷ []) e
 
 -- ---- a test that is not met
 

@@ -1,6 +1,8 @@
--- `size_fault` meets its contract, case by case. Assumes nothing.
-use mathlib.Core.Path.{sym, _∙_}
-use Rattle.moves.proofs.Tests.{met-first, unmet-second}
+-- `size_fault` meets its contract. Assumes nothing.
+use mathlib.Core.Path.{_∙_, ap₂}
+use mathlib.Core.List.{[], _∷_}
+use Rattle.definitions.specs.declared.Fault.{Fault}
+use Rattle.definitions.specs.Refusals.{firstFault}
 use borrow.Author.Needs.{needs}
 use Rattle.moves.proofs.size_fault.Statement.{statement}
 use Rattle.moves.proofs.size_fault.Tie as tie
@@ -8,28 +10,14 @@ use Rattle.moves.proofs.size_fault.Tie as tie
 cells-fault-requires : tie.Need-cells-fault-requires
 cells-fault-requires c κs = search needs
 
-enum-known-fault : tie.Need-enum-known-fault
-enum-known-fault c = search needs
-
-enum-told : tie.Need-enum-told
-enum-told c = search needs
-
 list-size-fault-requires : tie.Need-list-size-fault-requires
 list-size-fault-requires c κs = search needs
 
-returns : tie.Need-returns
-returns c = met-first _ _ _ (sym (c .before .before .before .cells-fault .ensures) ∙ c .before .fault .given .1)
+first-met-requires : tie.Need-first-met-requires
+first-met-requires c κs = search needs
 
-returns-2 : tie.Need-returns-2
-returns-2 c = c .list-size-fault .ensures ∙ unmet-second _ (sym (c .before .before .before .cells-fault .ensures) ∙ c .before .enum-told .given .1)
+returns : tie.Need-returns
+returns c = c .first-met .ensures ∙ ap₂ (λ (x y : Fault). firstFault (x ∷ y ∷ [])) (c .before .before .cells-fault .ensures) (c .before .list-size-fault .ensures)
 
 pub size-fault-spec : {M : Type 1} → statement M
-size-fault-spec =
-    tie.close
-    (tie.spec
-    cells-fault-requires
-    enum-known-fault
-    enum-told
-    list-size-fault-requires
-    returns
-    returns-2)
+size-fault-spec = tie.close (tie.spec cells-fault-requires list-size-fault-requires first-met-requires returns)
