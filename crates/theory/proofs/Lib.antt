@@ -37,3 +37,4 @@ pub mod ListCall
 pub mod SplitCall
 pub mod CheckCall
 pub mod Rows
+pub mod Held

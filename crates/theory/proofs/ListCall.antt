@@ -10,7 +10,7 @@ use lib.ListN.{length}
 use native.Mathlib.Omega.{arith}
 use Rattle.definitions.specs.declared.Fault.{Fault}
 use Rattle.definitions.specs.declared.Fault.the-variants.{None, At}
-use Rattle.definitions.specs.Limits.{entryLimit}
+use Rattle.definitions.specs.Limits.{entryLimit, listLimit}
 use Rattle.definitions.specs.Vector.{Vector, isZero, within, zeroVector}
 use Rattle.definitions.specs.Group.{Exchange}
 use Rattle.definitions.specs.Completion.{Completion, State, begun, completed, finalRows, isFinished, remainder, running, settled, step, stopped, storedRows, sumAt, sumCount}
@@ -22,9 +22,9 @@ use Rattle.theory.proofs.Members.{Each, each-member}
 use Rattle.theory.proofs.Symmetric.{Symmetric}
 use Rattle.theory.proofs.Bounds.{Within, each-within}
 use Rattle.theory.proofs.Whole.{Stored}
-use Rattle.theory.proofs.Counting.{completed-tried, if-cases}
+use Rattle.theory.proofs.Counting.{Tried, completed-tried, if-cases}
 use Rattle.theory.proofs.Completion.{Progress, Sound, completed-conformal, completed-sound, run-keeps, table-positive}
-use Rattle.theory.proofs.Listing.{final-in-order, final-keeps, final-stored, final-whole}
+use Rattle.theory.proofs.Listing.{final-few, final-in-order, final-keeps, final-stored, final-whole}
 use Rattle.theory.proofs.Faults.{Numbered, accepted-refused, numbered-end, numbered-first, numbered-if, numbered-where, tests-none, unless-none, unless-refused}
 use Rattle.theory.proofs.Accepted.{order-generators, order-symmetric}
 
@@ -33,6 +33,8 @@ pub record ListFacts (order : Order) (found : Listing) : Type 0 where
   pub symmetric : Symmetric (order .n) (exchangesOf order) (found .table) (generatorsOf order)
   pub stored : Stored symmetric (found .rows)
   pub kept : ListKept order found
+  pub few : length (found .rows) ≤ found .stored
+  pub room : found .stored ≤ listLimit
 
 -- ---- the completion's end
 module _ (order : Order) (groupSize limit : ℕ) (e : cellsFault (order .n) ≡ None) (f : orderFault order groupSize ≡ None) where
@@ -42,9 +44,9 @@ module _ (order : Order) (groupSize limit : ℕ) (e : cellsFault (order .n) ≡ 
   O : Symmetric (order .n) (exchangesOf order) table (generatorsOf order)
   O = order-symmetric order groupSize e f
 
-  ended-facts : (s : State) → completed table limit (generatorsOf order) ≡ running s
+  ended-facts : limit ≤ listLimit → (s : State) → completed table limit (generatorsOf order) ≡ running s
       → ListFacts order (record { rows = finalRows table (s .rows); table = table; stored = length (s .rows); sums = s .sums })
-  ended-facts s q = record {
+  ended-facts h s q = record {
     symmetric = O;
     stored = final-keeps O rows (P .stored);
     kept = record {
@@ -53,8 +55,10 @@ module _ (order : Order) (groupSize limit : ℕ) (e : cellsFault (order .n) ≡ 
       greatestImages = λ r l. each-member (P .stored .canonical) (final-stored O rows (P .stored) r l);
       limited = λ r l. each-within entryLimit (each-member (P .limited) (final-stored O rows (P .stored) r l));
       table = O .isTable;
-      counted = completed-tried table limit (generatorsOf order) s (table-positive O (G .0) (G .1)) q .all;
+      counted = tried .all;
     };
+    few = final-few table rows;
+    room = omega (arith, tried .fits, h);
   }
     where
       rows : List Vector
@@ -63,12 +67,15 @@ module _ (order : Order) (groupSize limit : ℕ) (e : cellsFault (order .n) ≡ 
       G : Each (λ g. ¬ (g ≡ zeroVector)) (generatorsOf order) × Each (Within entryLimit) (generatorsOf order)
       G = order-generators order groupSize f
 
+      tried : Tried table limit s
+      tried = completed-tried table limit (generatorsOf order) s (table-positive O (G .0) (G .1)) q
+
       P : Progress O s
       P = let c : Sound O limit (running s) = subst (Sound O limit) q (completed-sound O (G .0) (G .1) limit) in c .0
 
 -- what a List finds rests on this
 pub listing-facts : (order : Order) (listSize groupSize : ℕ) (found : Listing) → listing order listSize groupSize ≡ accepted found → ListFacts order found
-unfolding listing listingOf
+unfolding listing listingOf listRows
 listing-facts order listSize groupSize found e =
     let a = unless-none _ (listingOf table (completed table limit (generatorsOf order))) e in
     let b = tests-none (cellsFault (order .n)) _ (a .0) in
@@ -82,11 +89,14 @@ listing-facts order listSize groupSize found e =
     limit : ℕ
     limit = listRows (order .n) listSize
 
+    used : limit ≤ listLimit
+    used = omega arith
+
     go : cellsFault (order .n) ≡ None → orderFault order groupSize ≡ None → (c : Completion) → completed table limit (generatorsOf order) ≡ c → listingOf table c ≡ accepted found → ListFacts order found
     go p q (stopped number place) r x = accepted-refused x
     go p q (running s) r x =
         let y : _≡_ {A = Listing} (record { rows = finalRows table (s .rows); table = table; stored = length (s .rows); sums = s .sums }) found = cc in
-        subst (ListFacts order) y (ended-facts order groupSize limit p q s r)
+        subst (ListFacts order) y (ended-facts order groupSize limit p q used s r)
 
 -- LIST: an accepted listing keeps demand 2
 pub list-kept : (order : Order) (listSize groupSize : ℕ) (found : Listing) → listing order listSize groupSize ≡ accepted found → ListKept order found
