@@ -1,3 +1,4 @@
+pub mod Sums
 pub mod Facts
 pub mod Turns
 pub mod FirstRows

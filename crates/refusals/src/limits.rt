@@ -18,5 +18,8 @@ pub const EXCHANGE_LIMIT: usize = 8;
 // 14: the greatest absolute value of an entry of a vector to split.
 pub const SPLIT_LIMIT: u32 = 1_000_000;
 
+// 19: the greatest absolute value of a coefficient.
+pub const COEFFICIENT_LIMIT: i64 = 1_000_000;
+
 // The numbers that a piece takes in the pieces area.
 pub const PIECE_WIDTH: usize = 4;

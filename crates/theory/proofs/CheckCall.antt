@@ -2,7 +2,7 @@
 -- vector is a sum of images of rows, none opposing it. Assumes nothing.
 use mathlib.Core.Path.{_≡_, refl, sym, _∙_, ap, subst, ap₂}
 use mathlib.Core.Logic.{_↔_}
-use mathlib.Core.Bool.{false, not, _||_, Bool, _&&_}
+use mathlib.Core.Bool.{Bool, true, false, not, _||_, _&&_}
 use mathlib.Core.List.{List, []}
 use Prim.Native.Nat.{ℕ, suc, _*_, _/_, _≤_, _<_}
 use borrow.Author.Tests.{not-false, eqb-true}
@@ -21,15 +21,15 @@ use Rattle.definitions.specs.Group.{Exchange, identity, unit}
 use Rattle.definitions.specs.Orbit.{IsImage, precedes, representative}
 use Rattle.definitions.specs.Completion.{hasOtherBelow, remainder, sumCount}
 use Rattle.definitions.specs.Lent.{Order, chunks, exchangesOf, generatorsOf, rowsOf, tableOf, vectorsOf, wholeRows, wholeRowsUpTo}
-use Rattle.definitions.specs.Refusals.{cellsFault, checkSizeFault, isMisplaced, isPast, isUncertified, isUnfit, orderFault, orderFits, rowsFault, wholenessFault}
+use Rattle.definitions.specs.Refusals.{cellsFault, checkSizeFault, faultWhere, isMisplaced, isPast, isUncertified, isUnfit, orderFault, orderFits, rowsFault, wholenessFault}
 use Rattle.definitions.specs.Calls.{checkCall, checkEnd, checkFault, rulesFault}
 use Rattle.definitions.specs.Demands.{ConformalSum, InOrder, RulesKept, Whole}
 use Rattle.theory.proofs.Tests.{and-true-right, or-false-left, or-false-right}
 use Rattle.theory.proofs.Lists.{chunks-length, row-long}
-use Rattle.theory.proofs.Members.{each-from, each-member, member-place}
+use Rattle.theory.proofs.Members.{Each, each-from, each-member, member-place}
 use Rattle.theory.proofs.Below.{unopposed}
 use Rattle.theory.proofs.Symmetric.{Symmetric}
-use Rattle.theory.proofs.Bounds.{not-zero}
+use Rattle.theory.proofs.Bounds.{Within, not-zero, within-each}
 use Rattle.theory.proofs.Whole.{Stored}
 use Rattle.theory.proofs.Equal.{equal-same}
 use Rattle.theory.proofs.Sums.{sums-none}
@@ -49,6 +49,7 @@ generators-count order = vectors-count (order .n) (order .generators)
 -- ---- 17 to 19, row by row
 record Fitting (table : List Exchange) (row : Vector) : Type 0 where
   nonzero : isZero row ≡ false
+  limited : within entryLimit row ≡ true
   canonical : representative table row ≡ row
 
 fitting : (table : List Exchange) (row : Vector) → isUnfit table row ≡ false → Fitting table row
@@ -58,6 +59,7 @@ fitting table row e =
     let b = or-false-right (isZero row || not (within entryLimit row)) (not (equal row (representative table row))) e in
     record {
       nonzero = or-false-left (isZero row) (not (within entryLimit row)) a;
+      limited = not-false (within entryLimit row) (or-false-right (isZero row) (not (within entryLimit row)) a);
       canonical = sym (equal-same row (representative table row) (not-false (equal row (representative table row)) b));
     }
 
@@ -70,6 +72,37 @@ unfolding isUncertified
 certified generators coefficients row l e =
     let b = or-false-right (any (isPast coefficientLimit) coefficients) (not (equal (combination coefficients generators) row)) e in
     record { coefficients = coefficients; oneEach = l; addsUp = equal-same (combination coefficients generators) row (not-false (equal (combination coefficients generators) row) b) }
+
+-- rows that meet none of 17 to 19 may be stored
+module _ {n : ℕ} {sent table : List Exchange} {generators : List Vector} (O : Symmetric n sent table generators) (rows : List Vector) (coefficients : List ℤ) (enough : length rows * length generators ≤ length coefficients)
+    (passed : rowsFault table generators rows coefficients ≡ None) where
+  abbrev certificates : List (List ℤ)
+  certificates = chunks (length generators) (length rows) coefficients
+
+  -- 17, 18 and 19 are not met
+  unmet : (faultWhere 17 (length rows) (λ r. isUnfit table (getD rows r [])) ≡ None) × (faultWhere 18 (length rows) (isMisplaced rows) ≡ None) × (faultWhere 19 (length rows) (λ r. isUncertified generators (getD certificates r []) (getD rows r [])) ≡ None)
+  unfolding rowsFault
+  unmet =
+      let x = tests-none _ _ passed in
+      let y = tests-none _ _ (x .1) in
+      let z = tests-none _ _ (y .1) in
+      (x .0, y .0, z .0)
+
+  fit : (r : ℕ) → r < length rows → Fitting table (getD rows r [])
+  fit r l = fitting table (getD rows r []) (where-none 17 (length rows) (λ r. isUnfit table (getD rows r [])) .0 (unmet .0) r l)
+
+  pub rows-stored : Stored O rows
+  rows-stored = record {
+    inside = each-from rows [] (λ r l. certified generators (getD certificates r []) (getD rows r [])
+        (row-long (length generators) (length rows) r coefficients l enough)
+        (where-none 19 (length rows) (λ r. isUncertified generators (getD certificates r []) (getD rows r [])) .0 (unmet .2) r l));
+    nonzero = each-from rows [] (λ r l. not-zero (fit r l .nonzero));
+    canonical = each-from rows [] (λ r l. fit r l .canonical);
+    once = ordered-once (in-order-ordered rows (placed-in-order rows (where-none 18 (length rows) (isMisplaced rows) .0 (unmet .1))));
+  }
+
+  pub rows-limited : Each (Within entryLimit) rows
+  rows-limited = each-from rows [] (λ r l. within-each entryLimit (getD rows r []) (fit r l .limited))
 
 module _ (order : Order) (brought coefficients : List ℤ) (groupSize : ℕ) where
   abbrev table : List Exchange
@@ -94,29 +127,16 @@ module _ (order : Order) (brought coefficients : List ℤ) (groupSize : ℕ) whe
       omega (arith, d, ap₂ _*_ (vectors-count (order .n) brought) (generators-count order))
 
   pub rules-facts : RulesKept order brought coefficients groupSize → RulesFacts
-  unfolding rulesFault rowsFault
+  unfolding rulesFault
   rules-facts e =
       let a = tests-none (cellsFault (order .n)) _ e in
       let b = tests-none (checkSizeFault order brought coefficients groupSize) _ (a .1) in
       let c = tests-none (orderFault order groupSize) _ (b .1) in
       let d = tests-none (rowsFault table (generatorsOf order) rows coefficients) _ (c .1) in
-      let x = tests-none _ _ (d .0) in
-      let y = tests-none _ _ (x .1) in
-      let z = tests-none _ _ (y .1) in
       let O = order-symmetric order groupSize (a .0) (c .0) in
-      let fit : (r : ℕ) → r < length rows → Fitting table (getD rows r []) = λ r l. fitting table (getD rows r []) (where-none 17 (length rows) (λ r. isUnfit table (getD rows r [])) .0 (x .0) r l) in
-      let sorted = placed-in-order rows (where-none 18 (length rows) (isMisplaced rows) .0 (y .0)) in
-      let certificates = chunks (length (generatorsOf order)) (length rows) coefficients in
       record {
         symmetric = O;
-        stored = record {
-          inside = each-from rows [] (λ r l. certified (generatorsOf order) (getD certificates r []) (getD rows r [])
-              (row-long (length (generatorsOf order)) (length rows) r coefficients l (counts (b .0)))
-              (where-none 19 (length rows) (λ r. isUncertified (generatorsOf order) (getD certificates r []) (getD rows r [])) .0 (z .0) r l));
-          nonzero = each-from rows [] (λ r l. not-zero (fit r l .nonzero));
-          canonical = each-from rows [] (λ r l. fit r l .canonical);
-          once = ordered-once (in-order-ordered rows sorted);
-        };
+        stored = rows-stored O rows coefficients (counts (b .0)) (d .0);
         nonempty = (let at = member-place [] (O .isTable .complete (identity (order .n)) unit) in omega (arith, at .1));
       }
 

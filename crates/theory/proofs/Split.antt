@@ -72,7 +72,7 @@ one-more c g =
     let e : pos 1 +ℤ pos c ≡ pos (suc c) = ap pos (omega arith) in
     ap (λ (z : ℤ). scale z g) (sym e) ∙ scale-plus (pos 1) (pos c) g ∙ ap (λ (w : Vector). plus w (scale (pos c) g)) (scale-one g)
 
-none-taken : (g s : Vector) → length g ≡ cells → length s ≡ cells → minus s (scale (pos zero) g) ≡ s
+pub none-taken : (g s : Vector) → length g ≡ cells → length s ≡ cells → minus s (scale (pos zero) g) ≡ s
 unfolding minus
 none-taken g s q p = ap (λ (w : Vector). plus s (negative w)) (scale-zero g q) ∙ ap (plus s) negative-zero ∙ plus-zero s p
 

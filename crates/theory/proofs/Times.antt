@@ -116,11 +116,12 @@ times-most bound (x ∷ u) (y ∷ v) c h t =
     (cell-most bound x y c h (to-fits c x y (and-left (cellBelow (pos c *ℤ x) y) (below (scale (pos c) u) v) t)))
     (and-right (cellBelow (pos c *ℤ x) y) (below (scale (pos c) u) v) t)
 
-record Multiple (bound c : ℕ) (u v : Vector) : Type 0 where
-  most : c ≤ bound
-  lies : T (below (scale (pos c) u) v)
+-- that multiple of u lies below v, and c is at most the bound
+pub record Multiple (bound c : ℕ) (u v : Vector) : Type 0 where
+  pub most : c ≤ bound
+  pub lies : T (below (scale (pos c) u) v)
 
-times-least : (bound : ℕ) (u v : Vector) (c : ℕ) → length u ≡ length v → c ≤ timesUpTo bound u v → Multiple bound c u v
+pub times-least : (bound : ℕ) (u v : Vector) (c : ℕ) → length u ≡ length v → c ≤ timesUpTo bound u v → Multiple bound c u v
 unfolding timesUpTo scale below
 times-least bound [] [] c l h = record { most = h; lies = tt }
 times-least bound [] (y ∷ v) c l h = absurd (omega arith)

@@ -1,0 +1,2 @@
+-- What the tests of a brought list ask of their callers.
+pub mod Lists
