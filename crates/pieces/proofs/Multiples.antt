@@ -1,0 +1,114 @@
+-- A multiple that lies below a vector, cell by cell: it fits, and so does what remains. Assumes nothing.
+use mathlib.Core.Path.{_≡_, refl, sym, ap, _∙_, subst}
+use mathlib.Core.Bool.{true}
+use mathlib.Core.List.{[], _∷_}
+use Prim.Native.Nat.{ℕ, zero, suc, _*_, _≤_, _<_}
+use native.Mathlib.Nat.{suc-mul}
+use native.Mathlib.Omega.{arith}
+use lib.IntN.{ℤ, pos, negsuc, _+ℤ_, _-ℤ_, _*ℤ_, negℤ}
+use lib.Signed.{mag}
+use lib.ListN.{length}
+use mir.Syntax.{w32}
+use mir.Val.{toZ, ofZ, SFits}
+use mir.Facts.{toZ-ofZ}
+use Rattle.definitions.specs.Limits.{cells, splitLimit}
+use Rattle.definitions.specs.Vector.{Vector, below, minus, negative, plus, scale, weight, within}
+use Rattle.definitions.specs.Split.{times}
+use Rattle.theory.proofs.Cell.{CellBelow, cell-rest}
+use Rattle.theory.proofs.Below.{_⊑_, head-below, tail-below, ⊑-length}
+use Rattle.theory.proofs.Lattice.{length-scale}
+use Rattle.theory.proofs.Members.{each-cons, each-nil}
+use Rattle.theory.proofs.Bounds.{Within, within-each}
+use Rattle.theory.proofs.Times.{Multiple, times-least}
+use Rattle.vectors.proofs.Kit.{cellAt}
+use Rattle.vectors.proofs.Cells.{none-below}
+use Rattle.pieces.specs.Taking.{countLimit}
+
+-- ---- one cell
+
+-- what lies below a number fits where it does
+below-fits : (x y : ℤ) → CellBelow x y → SFits w32 y → SFits w32 x
+below-fits x y h k = let j = go x y h in record { sfits = omega (arith, k .sfits) }
+  where
+    go : (x y : ℤ) → CellBelow x y → mag x ≤ mag y
+    go (pos a) (pos b) h = h .rise
+    go (pos a) (negsuc b) h = omega (arith, h .rise)
+    go (negsuc a) (pos b) h = absurd (omega (arith, h .fall))
+    go (negsuc a) (negsuc b) h = omega (arith, h .fall)
+
+-- a row, a position and a count fit
+pub small-fits : {k : ℕ} → k ≤ countLimit → SFits w32 (pos k)
+small-fits h = record { sfits = omega arith }
+
+-- ---- cell i
+
+below-at : (u v : Vector) (i : ℕ) → u ⊑ v → i < length v → CellBelow (cellAt u i) (cellAt v i)
+unfolding below
+below-at u [] i h l = none-below l
+below-at [] (y ∷ v) i h l = absurd (h .test)
+below-at (x ∷ u) (y ∷ v) zero h l = head-below h
+below-at (x ∷ u) (y ∷ v) (suc i) h l = below-at u v i (tail-below h) (omega arith)
+
+scale-at : (c : ℤ) (u : Vector) (i : ℕ) → i < length u → cellAt (scale c u) i ≡ c *ℤ cellAt u i
+unfolding scale
+scale-at c [] i h = none-below h
+scale-at c (x ∷ u) zero h = refl
+scale-at c (x ∷ u) (suc i) h = scale-at c u i (omega arith)
+
+minus-at : (v u : Vector) (i : ℕ) → length v ≡ length u → i < length v → cellAt (minus v u) i ≡ cellAt v i +ℤ negℤ (cellAt u i)
+unfolding minus plus negative
+minus-at [] u i e h = none-below h
+minus-at (x ∷ v) [] i e h = absurd (omega arith)
+minus-at (x ∷ v) (y ∷ u) zero e h = refl
+minus-at (x ∷ v) (y ∷ u) (suc i) e h = minus-at v u i (omega arith) (omega arith)
+
+-- what the machine makes of cell i, where that multiple of u lies below v and the cells fit
+module _ (v u : Vector) (count i : ℕ) (lies : scale (pos count) u ⊑ v) (small : count ≤ countLimit) (inside : i < length v) (v-fits : SFits w32 (cellAt v i)) (u-fits : SFits w32 (cellAt u i)) where
+  long : length (scale (pos count) u) ≡ length v
+  long = ⊑-length lies
+
+  listed : i < length u
+  listed = omega (arith, long, length-scale (pos count) u)
+
+  product-below : CellBelow (pos count *ℤ cellAt u i) (cellAt v i)
+  product-below = subst (λ (x : ℤ). CellBelow x (cellAt v i)) (scale-at (pos count) u i listed) (below-at (scale (pos count) u) v i lies inside)
+
+  product-fits : SFits w32 (pos count *ℤ cellAt u i)
+  product-fits = below-fits (pos count *ℤ cellAt u i) (cellAt v i) product-below v-fits
+
+  rest-fits : SFits w32 (cellAt v i +ℤ negℤ (pos count *ℤ cellAt u i))
+  rest-fits = below-fits (cellAt v i +ℤ negℤ (pos count *ℤ cellAt u i)) (cellAt v i) (cell-rest product-below) v-fits
+
+  factor-read : toZ w32 count ≡ pos count
+  factor-read = toZ-ofZ (small-fits small)
+
+  pub products-fit : SFits w32 (toZ w32 count *ℤ toZ w32 (ofZ w32 (cellAt u i)))
+  products-fit = rw (factor-read, toZ-ofZ u-fits) product-fits
+
+  product-read : toZ w32 (ofZ w32 (toZ w32 count *ℤ toZ w32 (ofZ w32 (cellAt u i)))) ≡ pos count *ℤ cellAt u i
+  product-read = rw (factor-read, toZ-ofZ u-fits) (toZ-ofZ product-fits)
+
+  pub rests-fit : SFits w32 (toZ w32 (ofZ w32 (cellAt v i)) -ℤ toZ w32 (ofZ w32 (toZ w32 count *ℤ toZ w32 (ofZ w32 (cellAt u i)))))
+  rests-fit = rw (toZ-ofZ v-fits, product-read) rest-fits
+
+  pub rests-read : toZ w32 (ofZ w32 (toZ w32 (ofZ w32 (cellAt v i)) -ℤ toZ w32 (ofZ w32 (toZ w32 count *ℤ toZ w32 (ofZ w32 (cellAt u i)))))) ≡ cellAt (minus v (scale (pos count) u)) i
+  rests-read = rw (toZ-ofZ v-fits, product-read) (toZ-ofZ rest-fits)
+      ∙ ap (λ (x : ℤ). cellAt v i +ℤ negℤ x) (sym (scale-at (pos count) u i listed)) ∙ sym (minus-at v (scale (pos count) u) i (sym long) inside)
+
+-- ---- how often an image is taken
+
+weight-within : (limit : ℕ) {v : Vector} → Within limit v → weight v ≤ length v * limit
+unfolding weight
+weight-within limit each-nil = omega arith
+weight-within limit (each-cons {xs = v} k h) = omega (arith, weight-within limit h, suc-mul (length v) limit)
+
+-- that multiple of an image lies below what remains, and its number is small
+module _ (u v : Vector) (count : ℕ) (u-long : length u ≡ cells) (v-long : length v ≡ cells) (limited : within splitLimit v ≡ true) (is : count ≡ times u v) where
+  least : Multiple (weight v) count u v
+  unfolding times
+  least = times-least (weight v) u v count (u-long ∙ sym v-long) (omega arith)
+
+  pub times-fit : (scale (pos count) u ⊑ v) × (count ≤ countLimit)
+  times-fit =
+      let e : length v * splitLimit ≡ cells * splitLimit = ap (λ (k : ℕ). k * splitLimit) v-long in
+      (record { test = least .lies }, omega (arith, least .most, weight-within splitLimit (within-each splitLimit v limited)))

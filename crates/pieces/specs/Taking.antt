@@ -1,0 +1,64 @@
+-- Pieces taken image by image, and the area that they are written to (Specification 4.1). Assumes nothing.
+use mathlib.Core.Path.{_≡_}
+use mathlib.Core.Bool.{Bool, true, false, cond}
+use mathlib.Core.List.{List, [], _∷_, map}
+use Prim.Native.Nat.{ℕ, suc, _+_, _*_, _/_, _≤_}
+use lib.Dec.{ltb}
+use lib.IntN.{ℤ, pos}
+use lib.ListN.{length}
+use lib.Seq.{paste}
+use Rattle.definitions.specs.Limits.{cells, groupLimit, listLimit, pieceWidth, splitLimit}
+use Rattle.definitions.specs.Lists.{concat}
+use Rattle.definitions.specs.Vector.{Vector, negative, within}
+use Rattle.definitions.specs.Split.{Image, Piece, sign, splitting, written}
+use Rattle.definitions.specs.Lent.{filled}
+use Rattle.theory.proofs.Below.{_⊑_}
+use Rattle.pieces.specs.declared.Taken.{Taken}
+
+-- an image with its place
+abbrev pub imageAt : (row position : ℕ) (positive : Bool) → Vector → Image
+imageAt row position positive u = record { row = row; position = position; positive = positive; vector = u }
+
+-- the two images of a position
+abbrev pub pair : (row position : ℕ) → Vector → List Image
+pair row position u = imageAt row position true u ∷ imageAt row position false (negative u) ∷ []
+
+-- the most pieces of a vector: each image of each row is one at most
+abbrev pub pieceLimit : ℕ
+pieceLimit = listLimit * (2 * groupLimit)
+
+-- an image is taken at most so often: this bounds the weight of a vector to split
+abbrev pub countLimit : ℕ
+countLimit = cells * splitLimit
+
+-- the four numbers of a piece
+abbrev pub fourNumbers : (row position : ℕ) (positive : Bool) (count : ℕ) → List ℤ
+fourNumbers row position positive count = pos row ∷ pos position ∷ sign positive ∷ pos count ∷ []
+
+-- the pieces area with the numbers of piece `count` written, where it has room for them
+abbrev pub withNumbers : (area : List ℤ) (count : ℕ) (numbers : List ℤ) → List ℤ
+withNumbers area count numbers = cond (ltb count (length area / pieceWidth)) (paste area (count * pieceWidth) numbers pieceWidth) area
+
+-- the pieces area with pieces written from piece `count` on, as far as it has room
+unfoldable pub laid : (area : List ℤ) (count : ℕ) (pieces : List Piece) → List ℤ
+laid area count [] = area
+laid area count (piece ∷ pieces) = laid (withNumbers area count (written piece)) (suc count) pieces
+
+-- what remains is a vector, as small as one to split, and so many images may yet be tried
+pub record Ready (images : ℕ) (t : Taken) : Type 0 where
+  pub long : length (t .rest) ≡ cells
+  pub limited : within splitLimit (t .rest) ≡ true
+  pub few : t .count + images ≤ pieceLimit
+
+-- each image in turn was taken from what remained, its piece counted, and written where there is room
+pub record Takes (images : List Image) (t : Taken) (area area′ : List ℤ) (r : Taken) : Type 0 where
+  pub remains : r .rest ≡ splitting images (t .rest) .rest
+  pub counted : r .count ≡ t .count + length (splitting images (t .rest) .pieces)
+  pub lies : area′ ≡ laid area (t .count) (splitting images (t .rest) .pieces)
+  pub lower : r .rest ⊑ t .rest
+
+-- 4.1: all images were taken from v; where the area has room for the pieces, it holds them with zeros behind
+pub record Splits (images : List Image) (v : Vector) (size : ℕ) (area : List ℤ) (r : Taken) : Type 0 where
+  pub rest : r .rest ≡ splitting images v .rest
+  pub count : r .count ≡ length (splitting images v .pieces)
+  pub held : r .count ≤ size / pieceWidth → area ≡ filled (pos 0) size (concat (map written (splitting images v .pieces)))
