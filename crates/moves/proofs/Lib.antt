@@ -3,3 +3,5 @@ pub mod Tests
 pub mod Tables
 pub mod Ends
 pub mod Steps
+pub mod Splits
+pub mod Checkings

@@ -1,27 +1,30 @@
--- What the parts of a List find, by the definitions (Specification 3 and 7). Assumes nothing.
+-- What the parts of the lent calls find, by the definitions (Specification 3, 4, 5 and 7). Assumes nothing.
 use mathlib.Core.Path.{_≡_}
-use mathlib.Core.Bool.{not}
+use mathlib.Core.Bool.{not, true}
 use mathlib.Core.List.{List, [], _∷_}
-use Prim.Native.Nat.{ℕ, _<_, _≤_}
+use Prim.Native.Nat.{ℕ, _*_, _/_, _<_, _≤_}
 use lib.Dec.{leb}
 use lib.IntN.{ℤ, pos}
 use lib.ListN.{length, getD}
+use Rattle.definitions.specs.declared.Answer.{Answer}
 use Rattle.definitions.specs.declared.Fault.{Fault}
 use Rattle.definitions.specs.declared.Fault.the-variants.{None, At}
-use Rattle.definitions.specs.Limits.{entryLimit, groupLimit}
+use Rattle.definitions.specs.Limits.{entryLimit, generatorLimit, groupLimit, listLimit}
 use Rattle.definitions.specs.Lists.{concat}
 use Rattle.definitions.specs.Vector.{isZero}
 use Rattle.definitions.specs.Group.{Exchange, isExchange, groupTable}
-use Rattle.definitions.specs.Completion.{completed}
-use Rattle.definitions.specs.Lent.{Order, chunks, filled, rowsOf, vectorsOf, numbersOf, listRows}
-use Rattle.definitions.specs.Refusals.{Outcome, accepted, refused, firstFault, faultIf, faultWhere, isPast, leavesGenerators}
-use Rattle.definitions.specs.Calls.{Listing, listingOf}
-use Rattle.reduction.specs.Areas.{Table}
+use Rattle.definitions.specs.Completion.{completed, sumCount}
+use Rattle.definitions.specs.Lent.{Order, chunks, filled, rowsOf, vectorsOf, numbersOf, listRows, wholeRows}
+use Rattle.definitions.specs.Refusals.{Outcome, accepted, refused, firstFault, faultIf, faultWhere, isPast, leavesGenerators, rowsFault, wholenessFault}
+use Rattle.definitions.specs.Calls.{Listing, Parts, listingOf, splitEnd}
+use Rattle.reduction.specs.Areas.{rowsAt, Area, Table}
 use Rattle.completion.specs.Machine.{Ordered}
 use Rattle.moves.specs.declared.Tested.{Tested}
 use Rattle.moves.specs.declared.Tested.the-variants as tested
 use Rattle.moves.specs.declared.Listed.{Listed}
 use Rattle.moves.specs.declared.Listed.the-variants as listed
+use Rattle.moves.specs.declared.Checked.{Checked}
+use Rattle.moves.specs.declared.Checked.the-variants as checked
 
 -- 7 and 8
 abbrev pub generatorsFault : (n : ℕ) (generators : List ℤ) → Fault
@@ -72,3 +75,52 @@ pub record Finds (n listSize groupSize : ℕ) (o : Outcome Listing) (list : List
   pub answer : r ≡ listedOf o
   pub listHolds : (found : Listing) → o ≡ accepted found → list ≡ filled (pos 0) listSize (numbersOf n (found .rows))
   pub groupHolds : (found : Listing) → o ≡ accepted found → group ≡ filled 0 groupSize (concat (found .table))
+
+-- ---- Split
+
+-- list and group areas that hold k rows and a table of g exchanges, with zeros behind
+pub record Held (n k g : ℕ) (list : List ℤ) (group : List ℕ) : Type 0 where
+  pub rowsOfTable : Table n g group
+  pub order : g ≤ groupLimit
+  pub area : Area n k list
+  pub few : k ≤ listLimit
+  pub listHeld : list ≡ filled (pos 0) (length list) (numbersOf n (rowsAt n k list))
+  pub groupHeld : group ≡ filled 0 (length group) (concat (chunks n g group))
+
+-- the listing that such areas hold
+abbrev pub listingIn : (n k g stored sums : ℕ) (list : List ℤ) (group : List ℕ) → Listing
+listingIn n k g stored sums list group = record { rows = rowsAt n k list; table = chunks n g group; stored = stored; sums = sums }
+
+-- a Split ended with this outcome: its answer and its areas
+pub record SplitEnds (n listSize groupSize piecesSize : ℕ) (o : Outcome Parts) (answer : Answer) (list : List ℤ) (group : List ℕ) (pieces : List ℤ) : Type 0 where
+  pub answers : answer ≡ splitEnd n listSize groupSize piecesSize o .answer
+  pub listHolds : list ≡ splitEnd n listSize groupSize piecesSize o .list
+  pub groupHolds : group ≡ splitEnd n listSize groupSize piecesSize o .group
+  pub piecesHolds : pieces ≡ splitEnd n listSize groupSize piecesSize o .pieces
+
+-- ---- Check
+
+-- a pass of so many rows by a group of order g, unless a test was met
+abbrev pub checkedOf : (rows g : ℕ) → Fault → Checked
+checkedOf rows g None = checked.Passed rows (sumCount g rows)
+checkedOf rows g (At number place) = checked.Refused number place
+
+-- 17 to 22
+abbrev pub broughtFault : (n : ℕ) (table : List Exchange) (generators rows coefficients : List ℤ) → Fault
+broughtFault n table generators rows coefficients =
+    firstFault
+    (rowsFault table (vectorsOf n generators) (vectorsOf n rows) coefficients
+    ∷ wholenessFault table (vectorsOf n generators) (vectorsOf n rows)
+    ∷ [])
+
+-- brought rows and coefficients in the right numbers
+pub record Sized (n : ℕ) (generators rows coefficients : List ℤ) : Type 0 where
+  pub whole : wholeRows n (length rows) ≡ true
+  pub few : length rows / n ≤ listLimit
+  pub generatorsFew : length generators / n ≤ generatorLimit
+  pub oneEach : length coefficients ≡ length rows / n * (length generators / n)
+
+-- the tests came to `fault`; where none was met, the area holds the table, and zeros behind
+pub record Checks (rows size : ℕ) (table : List Exchange) (fault : Fault) (group : List ℕ) (r : Checked) : Type 0 where
+  pub answer : r ≡ checkedOf rows (length table) fault
+  pub held : fault ≡ None → group ≡ filled 0 size (concat table)

@@ -1,15 +1,25 @@
--- What a List promises, for every input (Specification 1.1, 7.4 and 11). Assumes nothing.
+-- What the lent calls promise, for every input (Specification 1.1, 7.4 and 11). Assumes nothing.
 use mathlib.Core.Path.{_≡_}
-use mathlib.Core.List.{List}
+use mathlib.Core.Logic.{_↔_}
+use mathlib.Core.List.{List, [], _∷_, map}
 use Prim.Native.Nat.{ℕ}
 use lib.IntN.{ℤ, pos}
-use lib.ListN.{length, replicate}
+use lib.ListN.{length, getD, replicate}
 use Rattle.definitions.specs.declared.Answer.{Answer}
-use Rattle.definitions.specs.declared.Answer.the-variants.{Moves, Refused}
+use Rattle.definitions.specs.declared.Answer.the-variants.{Moves, Split, Passed, Refused}
+use Rattle.definitions.specs.declared.Fault.the-variants.{None}
+use Rattle.definitions.specs.Limits.{splitLimit}
 use Rattle.definitions.specs.Lists.{concat}
-use Rattle.definitions.specs.Lent.{Order, filled, numbersOf}
-use Rattle.definitions.specs.Calls.{Listing, listCall}
-use Rattle.definitions.specs.Demands.{ListKept}
+use Rattle.definitions.specs.Vector.{Vector, padded}
+use Rattle.definitions.specs.Lattice.{InLattice}
+use Rattle.definitions.specs.Completion.{sumCount}
+use Rattle.definitions.specs.Split.{written}
+use Rattle.definitions.specs.Lent.{Order, exchangesOf, filled, generatorsOf, numbersOf, tableOf, vectorsOf}
+use Rattle.definitions.specs.Refusals.{accepted, cellsFault, faultWhere, firstFault, isPast, splitSizeFault}
+use Rattle.definitions.specs.Calls.{Listing, Parts, listing, listCall, splitCall, checkCall}
+use Rattle.definitions.specs.Demands.{ConformalSum, IsTable, ListKept, RulesKept, SplitKept, Whole}
+
+-- ---- List
 
 -- demand 2: the list area holds a whole list, in order, and the group area the table of the group
 pub record ListAccepted (order : Order) (answer : Answer) (list : List ℤ) (group : List ℕ) : Type 0 where
@@ -31,3 +41,61 @@ pub record ListPromise (order : Order) (listSize groupSize : ℕ) (answer : Answ
   pub groupHolds : group ≡ listCall order listSize groupSize .group
   pub accepted : (rows g stored sums : ℕ) → answer ≡ Moves rows g stored sums → ListAccepted order answer list group
   pub refused : (number place : ℕ) → answer ≡ Refused number place → ListZero list group
+
+-- ---- Split
+
+-- demand 2: the pieces area holds pieces of a whole list that add up to the vector, none opposing it; the other areas hold the list and the table
+pub record SplitAccepted (order : Order) (vector : List ℤ) (answer : Answer) (list : List ℤ) (group : List ℕ) (pieces : List ℤ) : Type 0 where
+  pub found : Parts
+  pub listKept : ListKept order (found .listing)
+  pub kept : SplitKept (found .listing .table) (found .listing .rows) (padded vector) (found .pieces)
+  pub inLattice : InLattice (generatorsOf order) (padded vector)
+  pub says : answer ≡ Split (length (found .pieces)) (length (found .listing .rows)) (length (found .listing .table)) (found .listing .stored) (found .listing .sums)
+  pub listHolds : list ≡ filled (pos 0) (length list) (numbersOf (order .n) (found .listing .rows))
+  pub groupHolds : group ≡ filled 0 (length group) (concat (found .listing .table))
+  pub piecesHolds : pieces ≡ filled (pos 0) (length pieces) (concat (map written (found .pieces)))
+
+-- demand 1: zeros in every area lent for writing
+pub record SplitZero (list : List ℤ) (group : List ℕ) (pieces : List ℤ) : Type 0 where
+  pub listHolds : list ≡ replicate (length list) (pos 0)
+  pub groupHolds : group ≡ replicate (length group) 0
+  pub piecesHolds : pieces ≡ replicate (length pieces) (pos 0)
+
+-- 4.2: a Split that gets past 14
+pub record PastEntries (order : Order) (vector : List ℤ) (listSize groupSize piecesSize : ℕ) : Type 0 where
+  pub sizes : firstFault (cellsFault (order .n) ∷ splitSizeFault (order .n) vector piecesSize ∷ []) ≡ None
+  pub found : Listing
+  pub listed : listing order listSize groupSize ≡ accepted found
+  pub entries : faultWhere 14 (length vector) (λ p. isPast splitLimit (getD vector p (pos 0))) ≡ None
+
+-- the answer and the three areas by the definition; what a reader may conclude from an answer; and 15 exactly where the vector is not in the lattice
+pub record SplitPromise (order : Order) (vector : List ℤ) (listSize groupSize piecesSize : ℕ) (answer : Answer) (list : List ℤ) (group : List ℕ) (pieces : List ℤ) : Type 0 where
+  pub answers : answer ≡ splitCall order vector listSize groupSize piecesSize .answer
+  pub listHolds : list ≡ splitCall order vector listSize groupSize piecesSize .list
+  pub groupHolds : group ≡ splitCall order vector listSize groupSize piecesSize .group
+  pub piecesHolds : pieces ≡ splitCall order vector listSize groupSize piecesSize .pieces
+  pub accepted : (count rows g stored sums : ℕ) → answer ≡ Split count rows g stored sums → SplitAccepted order vector answer list group pieces
+  pub refused : (number place : ℕ) → answer ≡ Refused number place → SplitZero list group pieces
+  pub outside : answer ≡ Refused 15 0 → ¬ (InLattice (generatorsOf order) (padded vector))
+  pub exactly : PastEntries order vector listSize groupSize piecesSize → (answer ≡ Refused 15 0) ↔ (¬ (InLattice (generatorsOf order) (padded vector)))
+
+-- ---- Check
+
+-- a pass of so many rows and sums
+pub record CheckPassed (order : Order) (rows coefficients : List ℤ) (groupSize : ℕ) (group : List ℕ) (count sums : ℕ) : Type 0 where
+  pub kept : RulesKept order rows coefficients groupSize
+  pub whole : Whole (order .n) (exchangesOf order) (generatorsOf order) (vectorsOf (order .n) rows)
+  pub table : IsTable (order .n) (exchangesOf order) (tableOf order groupSize)
+  pub groupHolds : group ≡ filled 0 groupSize (concat (tableOf order groupSize))
+  pub rowsAre : count ≡ length (vectorsOf (order .n) rows)
+  pub sumsAre : sums ≡ sumCount (length (tableOf order groupSize)) (length (vectorsOf (order .n) rows))
+  pub conformal : (v : Vector) → InLattice (generatorsOf order) v → ConformalSum (order .n) (exchangesOf order) (vectorsOf (order .n) rows) v
+
+-- demand 3: the answer and the area by the definition; a pass if and only if the rules are kept and the list is whole; what a pass says; zeros after a refusal
+pub record CheckPromise (order : Order) (rows coefficients : List ℤ) (groupSize : ℕ) (answer : Answer) (group : List ℕ) : Type 0 where
+  pub answers : answer ≡ checkCall order rows coefficients groupSize .answer
+  pub groupHolds : group ≡ checkCall order rows coefficients groupSize .group
+  pub passes : (answer ≡ Passed (length (vectorsOf (order .n) rows)) (sumCount (length (tableOf order groupSize)) (length (vectorsOf (order .n) rows))))
+      ↔ (RulesKept order rows coefficients groupSize × Whole (order .n) (exchangesOf order) (generatorsOf order) (vectorsOf (order .n) rows))
+  pub passed : (count sums : ℕ) → answer ≡ Passed count sums → CheckPassed order rows coefficients groupSize group count sums
+  pub refused : (number place : ℕ) → answer ≡ Refused number place → group ≡ replicate (length group) 0

@@ -1,19 +1,21 @@
-// The lent calls (Specification 1.1): List.
+// The lent calls (Specification 1.1): List, Split and Check.
 ghost use mathlib.Core.Path.{_≡_};
-ghost use mathlib.Core.Bool.{true};
+ghost use mathlib.Core.Bool.{true, not};
 ghost use mathlib.Core.List.{[], _∷_};
 ghost use Prim.Native.Nat.{_/_, _≤_, min};
-ghost use lib.ListN.{length};
+ghost use lib.Dec.{leb};
+ghost use lib.IntN.{pos};
+ghost use lib.ListN.{length, getD};
 ghost use Rattle.definitions.specs.declared.Fault.the-variants.{None};
-ghost use Rattle.definitions.specs.Limits.{cells};
-ghost use Rattle.definitions.specs.Vector.{within};
+ghost use Rattle.definitions.specs.Limits.{cells, entryLimit, groupLimit, listLimit, pieceWidth, splitLimit};
+ghost use Rattle.definitions.specs.Vector.{isZero, within};
 ghost use Rattle.definitions.specs.Group.{groupTable};
 ghost use Rattle.definitions.specs.Lent.{chunks, rowsOf, groupRows, tableOf};
-ghost use Rattle.definitions.specs.Refusals.{firstFault, cellsFault, listSizeFault, orderFault, unlessFault};
-ghost use Rattle.definitions.specs.Calls.{listing};
+ghost use Rattle.definitions.specs.Refusals.{accepted, cellsFault, faultIf, faultWhere, firstFault, isPast, listSizeFault, orderFault, refused, splitSizeFault, unlessFault};
+ghost use Rattle.definitions.specs.Calls.{checkFault, listing, partsOf};
 ghost use Rattle.vectors.specs.Bounds.{headroom};
-ghost use Rattle.moves.specs.Promise.{ListPromise};
-ghost use Rattle.moves.specs.Found.{generatorsFault, groupFault, testedOf, Tabled, Grouped, listingWith, Finds};
+ghost use Rattle.moves.specs.Promise.{ListPromise, SplitPromise, CheckPromise};
+ghost use Rattle.moves.specs.Found.{generatorsFault, groupFault, testedOf, Tabled, Grouped, listingWith, Finds, Held, listingIn, SplitEnds, checkedOf, broughtFault, Sized, Checks};
 use completion::Completion;
 use definitions::Answer;
 use definitions::Fault;
@@ -21,6 +23,9 @@ use group::Built;
 use refusals::limits::ENTRY_LIMIT;
 use refusals::limits::GROUP_LIMIT;
 use refusals::limits::LIST_LIMIT;
+use refusals::limits::PIECE_WIDTH;
+use refusals::limits::SPLIT_LIMIT;
+use vectors::CELLS;
 
 // The marks of all images of all list rows.
 const MARKS: usize = LIST_LIMIT * GROUP_LIMIT;
@@ -43,6 +48,12 @@ pub enum Listed {
         number: u64,
         place: u64,
     },
+}
+
+// What a Check finds: the numbers of its answer.
+pub enum Checked {
+    Passed { rows: u64, sums: u64 },
+    Refused { number: u64, place: u64 },
 }
 
 // The rows of `width` numbers of an area, at most `limit`.
@@ -205,6 +216,316 @@ pub fn list(
         },
         Listed::Refused { number, place } => {
             ordering::clear(&mut *list, 0);
+            group::clear(&mut *group, 0);
+            Answer::Refused { number, place }
+        }
+    }
+}
+
+// Refusals 5 and 6 that come before the List of a Split (Specification 7.3).
+fn split_sizes(n: usize, vector: &[i32], pieces: usize) -> Fault
+    ensures { λ r. ⌜ r ≡ firstFault (cellsFault n ∷ splitSizeFault n (now (vector .entry)) pieces ∷ []) ⌝ }
+{
+    let cells = refusals::cells_fault(n);
+    let sizes = refusals::split_size_fault(n, vector, pieces);
+    refusals::first_met(cells, sizes)
+}
+
+// A refused Split: zeros in its three areas (Specification 7.4).
+fn refuse_split(
+    n: usize,
+    number: u64,
+    place: u64,
+    basis: &mut [i32],
+    group: &mut [u8],
+    pieces: &mut [i32],
+) -> Answer
+    ensures { λ r. ⌜ SplitEnds n (length (now (basis .entry))) (length (now (group .entry))) (length (now (pieces .entry))) (refused number place) r (now (basis .exit)) (now (group .exit)) (now (pieces .exit)) ⌝ }
+{
+    ordering::clear(&mut *basis, 0);
+    group::clear(&mut *group, 0);
+    ordering::clear(&mut *pieces, 0);
+    Answer::Refused { number, place }
+}
+
+// Refusals 15 and 16: what remains of the vector, and the number of its pieces in an area of `size` numbers (Specification 4.1).
+fn parts_fault(rest: [i32; CELLS], count: usize, size: usize) -> Fault
+    ensures { λ r. ⌜ r ≡ firstFault (faultIf 15 (not (isZero rest)) ∷ faultIf 16 (not (leb count (size / pieceWidth))) ∷ []) ⌝ }
+{
+    let outside = refusals::fault_if(15, !vectors::is_zero(rest));
+    let crowded = refusals::fault_if(16, !(count <= size / PIECE_WIDTH));
+    refusals::first_met(outside, crowded)
+}
+
+// The pieces of a vector by the list and the group in their areas, and refusals 15 and 16 (Specification 4.1).
+fn split_entries(
+    n: usize,
+    vector: &[i32],
+    basis: &mut [i32],
+    group: &mut [u8],
+    pieces: &mut [i32],
+    rows: u64,
+    order: u64,
+    stored: u64,
+    sums: u64,
+) -> Answer
+    requires { ⌜ Held n rows order (now basis) (now group) ⌝ }
+    requires { ⌜ (length (now vector) ≡ n) × (faultWhere 14 (length (now vector)) (λ p. isPast splitLimit (getD (now vector) p (pos 0))) ≡ None) ⌝ }
+    ensures { λ r. ⌜ SplitEnds n (length (now (basis .entry))) (length (now (group .entry))) (length (now (pieces .entry))) (partsOf (now (vector .entry)) (length (now (pieces .entry))) (accepted (listingIn n rows order stored sums (now (basis .entry)) (now (group .entry))))) r (now (basis .exit)) (now (group .exit)) (now (pieces .exit)) ⌝ }
+{
+    let v = vectors::load(vector, 0, n);
+    let k = rows as usize;
+    let g = order as usize;
+    let taken = pieces::split_rows(v, &*basis, n, k, &*group, g, &mut *pieces);
+    let rest = taken.rest;
+    let count = taken.count;
+    let fault = parts_fault(rest, count, pieces.len());
+    match fault {
+        Fault::At { number, place } => refuse_split(
+            n,
+            number,
+            place,
+            &mut *basis,
+            &mut *group,
+            &mut *pieces,
+        ),
+        Fault::None => Answer::Split {
+            pieces: count as u64,
+            rows,
+            order,
+            stored,
+            sums,
+        },
+    }
+}
+
+// 14 to 16, once the List of a Split has ended (Specification 4.1).
+fn split_listed(
+    n: usize,
+    vector: &[i32],
+    basis: &mut [i32],
+    group: &mut [u8],
+    pieces: &mut [i32],
+    rows: u64,
+    order: u64,
+    stored: u64,
+    sums: u64,
+) -> Answer
+    requires { ⌜ Held n rows order (now basis) (now group) ⌝ }
+    requires { ⌜ length (now vector) ≡ n ⌝ }
+    ensures { λ r. ⌜ SplitEnds n (length (now (basis .entry))) (length (now (group .entry))) (length (now (pieces .entry))) (partsOf (now (vector .entry)) (length (now (pieces .entry))) (accepted (listingIn n rows order stored sums (now (basis .entry)) (now (group .entry))))) r (now (basis .exit)) (now (group .exit)) (now (pieces .exit)) ⌝ }
+{
+    let fault = refusals::past_fault(vector, 14, SPLIT_LIMIT);
+    match fault {
+        Fault::At { number, place } => refuse_split(
+            n,
+            number,
+            place,
+            &mut *basis,
+            &mut *group,
+            &mut *pieces,
+        ),
+        Fault::None => split_entries(
+            n,
+            vector,
+            &mut *basis,
+            &mut *group,
+            &mut *pieces,
+            rows,
+            order,
+            stored,
+            sums,
+        ),
+    }
+}
+
+// The whole List, whose refusal is returned unchanged, and then 14 to 16 (Specification 4).
+fn split_sized(
+    n: usize,
+    generators: &[i32],
+    exchanges: &[u8],
+    vector: &[i32],
+    basis: &mut [i32],
+    group: &mut [u8],
+    pieces: &mut [i32],
+) -> Answer
+    requires { ⌜ firstFault (cellsFault n ∷ splitSizeFault n (now vector) (length (now pieces)) ∷ []) ≡ None ⌝ }
+    ensures { λ r. ⌜ SplitEnds n (length (now (basis .entry))) (length (now (group .entry))) (length (now (pieces .entry))) (partsOf (now (vector .entry)) (length (now (pieces .entry))) (listing (record { n = n; generators = now (generators .entry); exchanges = now (exchanges .entry) }) (length (now (basis .entry))) (length (now (group .entry))))) r (now (basis .exit)) (now (group .exit)) (now (pieces .exit)) ⌝ }
+{
+    ordering::clear(pieces, 0);
+    let listed = list(n, generators, exchanges, &mut *basis, &mut *group);
+    let Answer::Moves {
+        rows,
+        order,
+        stored,
+        sums,
+    } = listed
+    else {
+        return listed;
+    };
+    split_listed(
+        n,
+        vector,
+        &mut *basis,
+        &mut *group,
+        &mut *pieces,
+        rows,
+        order,
+        stored,
+        sums,
+    )
+}
+
+// Split: what List leaves in the list area and the group area, and in the pieces area images of listed rows that add up to the vector, none opposing it;
+// zeros behind them, and nothing but zeros after a refusal (Specification 1.1 and 4).
+pub fn split(
+    n: usize,
+    generators: &[i32],
+    exchanges: &[u8],
+    vector: &[i32],
+    basis: &mut [i32],
+    group: &mut [u8],
+    pieces: &mut [i32],
+) -> Answer
+    ensures { λ r. ⌜ SplitPromise (record { n = n; generators = now (generators .entry); exchanges = now (exchanges .entry) }) (now (vector .entry)) (length (now (basis .entry))) (length (now (group .entry))) (length (now (pieces .entry))) r (now (basis .exit)) (now (group .exit)) (now (pieces .exit)) ⌝ }
+{
+    let fault = split_sizes(n, vector, pieces.len());
+    match fault {
+        Fault::At { number, place } => refuse_split(
+            n,
+            number,
+            place,
+            &mut *basis,
+            &mut *group,
+            &mut *pieces,
+        ),
+        Fault::None => split_sized(
+            n,
+            generators,
+            exchanges,
+            vector,
+            &mut *basis,
+            &mut *group,
+            &mut *pieces,
+        ),
+    }
+}
+
+// 17 to 22 (Specification 5.1).
+fn brought_fault(
+    n: usize,
+    generators: &[i32],
+    rows: &[i32],
+    coefficients: &[i64],
+    group: &[u8],
+    g: usize,
+) -> Fault
+    requires { ⌜ Grouped n g (now generators) (now group) ⌝ }
+    requires { ⌜ within entryLimit (now generators) ≡ true ⌝ }
+    requires { ⌜ Sized n (now generators) (now rows) (now coefficients) ⌝ }
+    ensures { λ r. ⌜ r ≡ broughtFault n (chunks n g (now (group .entry))) (now (generators .entry)) (now (rows .entry)) (now (coefficients .entry)) ⌝ }
+{
+    let fault = certificates::rows_fault(n, generators, rows, coefficients, group, g);
+    match fault {
+        Fault::At { number, place } => Fault::At { number, place },
+        Fault::None => {
+            let mut marks = [0u8; MARKS];
+            wholeness::wholeness_fault(n, generators, rows, group, g, &mut marks)
+        }
+    }
+}
+
+// A pass of `rows` rows by a group of order `g`, unless a test was met (Specification 5.1).
+fn unless_faulty(fault: Fault, rows: usize, g: usize) -> Checked
+    requires { ⌜ (rows ≤ listLimit) × (g ≤ groupLimit) ⌝ }
+    ensures { λ r. ⌜ r ≡ checkedOf rows g fault ⌝ }
+{
+    match fault {
+        Fault::At { number, place } => Checked::Refused { number, place },
+        Fault::None => Checked::Passed {
+            rows: rows as u64,
+            sums: (g * rows * (rows + 1)) as u64,
+        },
+    }
+}
+
+// 7 to 22, and the group area of a list that passes (Specification 5.1).
+fn check_sized(
+    n: usize,
+    generators: &[i32],
+    exchanges: &[u8],
+    rows: &[i32],
+    coefficients: &[i64],
+    group: &mut [u8],
+) -> Checked
+    requires { ⌜ cellsFault n ≡ None ⌝ }
+    requires { ⌜ Sized n (now generators) (now rows) (now coefficients) ⌝ }
+    ensures { λ r. ⌜ Checks (length (now (rows .entry)) / n) (length (now (group .entry))) (tableOf (record { n = n; generators = now (generators .entry); exchanges = now (exchanges .entry) }) (length (now (group .entry)))) (firstFault (orderFault (record { n = n; generators = now (generators .entry); exchanges = now (exchanges .entry) }) (length (now (group .entry))) ∷ broughtFault n (tableOf (record { n = n; generators = now (generators .entry); exchanges = now (exchanges .entry) }) (length (now (group .entry)))) (now (generators .entry)) (now (rows .entry)) (now (coefficients .entry)) ∷ [])) (now (group .exit)) r ⌝ }
+{
+    let t = test_order(n, generators, exchanges, &mut *group);
+    match t {
+        Tested::Refused { number, place } => Checked::Refused { number, place },
+        Tested::Order(g) => {
+            let fault = brought_fault(n, generators, rows, coefficients, &*group, g);
+            unless_faulty(fault, rows.len() / n, g)
+        }
+    }
+}
+
+// 6 to 22, and the group area of a list that passes (Specification 5.1).
+fn check_celled(
+    n: usize,
+    generators: &[i32],
+    exchanges: &[u8],
+    rows: &[i32],
+    coefficients: &[i64],
+    group: &mut [u8],
+) -> Checked
+    requires { ⌜ cellsFault n ≡ None ⌝ }
+    ensures { λ r. ⌜ Checks (length (now (rows .entry)) / n) (length (now (group .entry))) (tableOf (record { n = n; generators = now (generators .entry); exchanges = now (exchanges .entry) }) (length (now (group .entry)))) (checkFault (record { n = n; generators = now (generators .entry); exchanges = now (exchanges .entry) }) (now (rows .entry)) (now (coefficients .entry)) (length (now (group .entry)))) (now (group .exit)) r ⌝ }
+{
+    let size = group.len();
+    let fault = refusals::check_size_fault(n, generators, exchanges, rows, coefficients, size);
+    match fault {
+        Fault::At { number, place } => Checked::Refused { number, place },
+        Fault::None => check_sized(n, generators, exchanges, rows, coefficients, &mut *group),
+    }
+}
+
+// 5 to 22, and the group area of a list that passes (Specification 5.1).
+fn check_brought(
+    n: usize,
+    generators: &[i32],
+    exchanges: &[u8],
+    rows: &[i32],
+    coefficients: &[i64],
+    group: &mut [u8],
+) -> Checked
+    ensures { λ r. ⌜ Checks (length (now (rows .entry)) / n) (length (now (group .entry))) (tableOf (record { n = n; generators = now (generators .entry); exchanges = now (exchanges .entry) }) (length (now (group .entry)))) (checkFault (record { n = n; generators = now (generators .entry); exchanges = now (exchanges .entry) }) (now (rows .entry)) (now (coefficients .entry)) (length (now (group .entry)))) (now (group .exit)) r ⌝ }
+{
+    let fault = refusals::cells_fault(n);
+    match fault {
+        Fault::At { number, place } => Checked::Refused { number, place },
+        Fault::None => check_celled(n, generators, exchanges, rows, coefficients, &mut *group),
+    }
+}
+
+// Check: a pass if and only if the rules are kept and the brought list is whole; the table of the group in the group area, zeros behind it,
+// and nothing but zeros after a refusal (Specification 1.1 and 5).
+pub fn check(
+    n: usize,
+    generators: &[i32],
+    exchanges: &[u8],
+    rows: &[i32],
+    coefficients: &[i64],
+    group: &mut [u8],
+) -> Answer
+    ensures { λ r. ⌜ CheckPromise (record { n = n; generators = now (generators .entry); exchanges = now (exchanges .entry) }) (now (rows .entry)) (now (coefficients .entry)) (length (now (group .entry))) r (now (group .exit)) ⌝ }
+{
+    let found = check_brought(n, generators, exchanges, rows, coefficients, &mut *group);
+    match found {
+        Checked::Passed { rows, sums } => Answer::Passed { rows, sums },
+        Checked::Refused { number, place } => {
             group::clear(&mut *group, 0);
             Answer::Refused { number, place }
         }
