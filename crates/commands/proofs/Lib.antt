@@ -1,0 +1,4 @@
+-- Laws of the commands and of two's complement.
+pub mod Twos
+pub mod Little
+pub mod Known

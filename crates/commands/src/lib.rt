@@ -1,0 +1,142 @@
+// The commands of an order file and the numbers of their operands (Specification 8.1).
+ghost use mathlib.Core.Path.{_≡_};
+ghost use Prim.Native.Nat.{_+_, _≤_, _<_, _^_};
+ghost use lib.ListN.{length};
+ghost use Rattle.definitions.specs.Limits.{cells, generatorLimit};
+ghost use Rattle.commands.specs.Commands.{commandAt, codeOf, operandsOf, widthOf};
+ghost use Rattle.commands.specs.Decode.{signedOf, littleAt, shortAt, wordAt};
+
+// A command, with the offset where its operands start.
+pub enum Command {
+    Size(usize),
+    Generator(usize),
+    Exchange(usize),
+    Row(usize),
+    Coefficients(usize),
+    Vector(usize),
+    End(usize),
+}
+
+// What stands where a command is due: a command, another byte, or the end of the order.
+pub enum Reading {
+    Known(Command),
+    Unknown,
+    Past,
+}
+
+// The command that is due at an offset.
+pub fn command_at(order: &[u8], at: usize) -> Reading
+    ensures { λ r. ⌜ r ≡ commandAt (now (order .entry)) at ⌝ }
+{
+    if order.len() <= at {
+        return Reading::Past;
+    }
+    let code = order[at];
+    let p = at + 1;
+    match code {
+        0 => Reading::Known(Command::End(p)),
+        1 => Reading::Known(Command::Size(p)),
+        2 => Reading::Known(Command::Generator(p)),
+        3 => Reading::Known(Command::Exchange(p)),
+        4 => Reading::Known(Command::Row(p)),
+        5 => Reading::Known(Command::Coefficients(p)),
+        6 => Reading::Known(Command::Vector(p)),
+        _ => Reading::Unknown,
+    }
+}
+
+// The byte of a command.
+pub fn code_of(command: Command) -> usize
+    ensures { λ r. ⌜ r ≡ codeOf command ⌝ }
+{
+    match command {
+        Command::End(_) => 0,
+        Command::Size(_) => 1,
+        Command::Generator(_) => 2,
+        Command::Exchange(_) => 3,
+        Command::Row(_) => 4,
+        Command::Coefficients(_) => 5,
+        Command::Vector(_) => 6,
+    }
+}
+
+// Where the operands of a command start.
+pub fn operands_of(command: Command) -> usize
+    ensures { λ r. ⌜ r ≡ operandsOf command ⌝ }
+{
+    match command {
+        Command::End(p) => p,
+        Command::Size(p) => p,
+        Command::Generator(p) => p,
+        Command::Exchange(p) => p,
+        Command::Row(p) => p,
+        Command::Coefficients(p) => p,
+        Command::Vector(p) => p,
+    }
+}
+
+// How many bytes the operands of a command take, with n cells and m generators.
+pub fn width_of(command: Command, n: usize, m: usize) -> usize
+    requires { ⌜ (n ≤ cells) × (m ≤ generatorLimit) ⌝ }
+    ensures { λ r. ⌜ r ≡ widthOf command n m ⌝ }
+{
+    match command {
+        Command::End(_) => 0,
+        Command::Size(_) => 1,
+        Command::Generator(_) => 2 * n,
+        Command::Exchange(_) => n,
+        Command::Row(_) => 2 * n,
+        Command::Coefficients(_) => 4 * m,
+        Command::Vector(_) => 4 * n,
+    }
+}
+
+// A byte, as a wide number.
+fn wide(byte: u8) -> u64
+    ensures { λ r. ⌜ (r ≡ byte) × (r < 256) ⌝ }
+{
+    byte as u64
+}
+
+// The unsigned number of some bytes, the least significant first.
+fn little_at(part: &[u8], at: usize, bytes: usize) -> u64
+    requires { ⌜ (at + bytes ≤ length (now part)) × (bytes ≤ 8) ⌝ }
+    ensures { λ r. ⌜ (r ≡ littleAt (now (part .entry)) at bytes) × (r < 256 ^ bytes) ⌝ }
+{
+    let mut v: u64 = 0;
+    let mut i = bytes;
+    while 0 < i {
+        i -= 1;
+        v = wide(part[at + i]) + 256 * v;
+    }
+    v
+}
+
+// The signed number whose bits in two's complement are those of v; half is the least number with the sign bit.
+fn signed(v: u64, half: u64) -> i64
+    requires { ⌜ (0 < half) × (half ≤ 2 ^ 63) × (v < half + half) ⌝ }
+    ensures { λ r. ⌜ r ≡ signedOf half v ⌝ }
+{
+    if v < half {
+        return v as i64;
+    }
+    let top = half - 1 + half;
+    let below = (top - v) as i64;
+    -below - 1
+}
+
+// The signed number of two bytes, in a part of the order.
+pub fn short_at(part: &[u8], at: usize) -> i32
+    requires { ⌜ at + 2 ≤ length (now part) ⌝ }
+    ensures { λ r. ⌜ r ≡ shortAt (now (part .entry)) at ⌝ }
+{
+    signed(little_at(part, at, 2), 0x8000) as i32
+}
+
+// The signed number of four bytes, in a part of the order.
+pub fn word_at(part: &[u8], at: usize) -> i32
+    requires { ⌜ at + 4 ≤ length (now part) ⌝ }
+    ensures { λ r. ⌜ r ≡ wordAt (now (part .entry)) at ⌝ }
+{
+    signed(little_at(part, at, 4), 0x8000_0000) as i32
+}

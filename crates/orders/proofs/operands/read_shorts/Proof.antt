@@ -1,0 +1,78 @@
+-- `read_shorts` meets its contract. The invariant: the first `i` numbers are in the area. Assumes nothing.
+use mathlib.Core.Path.{ap, _∙_}
+use Prim.Native.Nat.{_-_, _*_}
+use native.Mathlib.Omega.{arith}
+use lib.IntN.{pos}
+use mir.Syntax.{w32}
+use mir.ValLaws.{toZ-ofZ}
+use Rattle.commands.specs.Decode.{shortAt}
+use Rattle.orders.proofs.Numbers.{Filling, filling-start, filling-turn, filling-end, place-room}
+use Rattle.orders.proofs.operands.read_shorts.Statement.{statement}
+use Rattle.orders.proofs.operands.read_shorts.Tie as tie
+
+abbrev Inv-loop : tie.InvT-loop
+Inv-loop order p area₀ total i₀ area i = Filling (shortAt order) p 2 area₀ area i
+
+abbrev μ-loop : tie.MeasureT-loop
+μ-loop order p area₀ total i₀ area i = p .count * p .width - i
+
+mul-total : tie.Need-mul-total Inv-loop μ-loop
+mul-total c = omega (arith, c .before .before .pre .1)
+
+loop-holds : tie.Need-loop-holds Inv-loop μ-loop
+loop-holds c = let a = c .before .before .args in filling-start (pos 0) (shortAt (a .order .now)) (a .p) 2 (a .area .now)
+
+place-of-requires : tie.Need-place-of-requires Inv-loop μ-loop
+place-of-requires c κs = (c .before .before .before .before .pre .0, omega arith)
+
+short-at-requires : tie.Need-short-at-requires Inv-loop μ-loop
+short-at-requires c κs =
+    let s = c .before .before .before .before .before in
+    let e = c .place-of .ensures in
+    omega (arith, place-room (s .args .order .now) (s .args .p) 2 (c .before .before .loop .i) (s .pre .0) (omega arith))
+
+mul-t9 : tie.Need-mul-t9 Inv-loop μ-loop
+mul-t9 c = omega arith
+
+slice-set-from-area : tie.Need-slice-set-from-area Inv-loop μ-loop
+slice-set-from-area c = omega arith
+
+add-i : tie.Need-add-i Inv-loop μ-loop
+add-i c = omega arith
+
+loop-less : tie.Need-loop-less Inv-loop μ-loop
+loop-less c = omega arith
+
+loop-again : tie.Need-loop-again Inv-loop μ-loop
+loop-again c =
+    let s = c .before .before .before .before .before .before in
+    let o = c .before .before .before .loop in
+    filling-turn (pos 0) (shortAt (s .args .order .now)) (s .args .p) 2 (s .args .area .now) (o .area) (o .i) (o .inv)
+    (toZ-ofZ w32 (c .short-at .result) (record { sfits = c .short-at .ok }) ∙ c .short-at .ensures ∙ ap (shortAt (s .args .order .now)) (c .before .place-of .ensures)) (omega arith) (s .pre .1)
+
+same-length : tie.Need-same-length Inv-loop μ-loop
+same-length c = c .before .loop .inv .same
+
+returns : tie.Need-returns Inv-loop μ-loop
+returns c =
+    let a = c .before .before .before .before .args in
+    let o = c .before .loop in
+    filling-end (pos 0) (shortAt (a .order .now)) (a .p) 2 (a .area .now) (o .area) (o .i) (o .inv) (omega arith)
+
+pub read-shorts-spec : {M : Type 1} → statement M
+read-shorts-spec =
+    tie.close
+    (tie.spec
+    Inv-loop
+    μ-loop
+    mul-total
+    loop-holds
+    place-of-requires
+    short-at-requires
+    mul-t9
+    slice-set-from-area
+    add-i
+    loop-less
+    loop-again
+    same-length
+    returns)

@@ -1,0 +1,204 @@
+// The numbers that an accepted order lends, read into lent areas (Specification 8.3).
+ghost use mathlib.Core.Path.{_≡_};
+ghost use Prim.Native.Nat.{_+_, _*_, _≤_, _<_};
+ghost use lib.ListN.{length, getD};
+ghost use lib.Seq.{paste};
+ghost use Rattle.commands.specs.Decode.{shortAt, wordAt};
+ghost use Rattle.orders.specs.Operands.{Limited, LieWithin, headOf, pairOf, generatorPlaces, exchangePlaces, rowPlaces, coefficientPlaces, vectorPlaces, placeOf, numbersIn, generatorsIn, exchangesIn, rowsIn, coefficientsIn, vectorIn};
+use crate::Counts;
+use commands::short_at;
+use commands::word_at;
+
+// Where the operands of the commands of one kind stand: those of its first command start at `start`, those of each
+// further command `stride` bytes behind the ones before; `width` numbers to a command, `count` commands.
+pub struct Places {
+    pub start: usize,
+    pub stride: usize,
+    pub width: usize,
+    pub count: usize,
+}
+
+// The bytes of SIZE, the generators and the exchanges.
+fn head_of(c: Counts) -> usize
+    requires { ⌜ Limited c ⌝ }
+    ensures { λ r. ⌜ r ≡ headOf c ⌝ }
+{
+    2 + c.generators * (1 + 2 * c.cells) + c.exchanges * (1 + c.cells)
+}
+
+// The bytes of a row and its coefficients.
+fn pair_of(c: Counts) -> usize
+    requires { ⌜ Limited c ⌝ }
+    ensures { λ r. ⌜ r ≡ pairOf c ⌝ }
+{
+    1 + 2 * c.cells + (1 + 4 * c.generators)
+}
+
+// Where the numbers of the generators stand, behind SIZE.
+fn generator_places(c: Counts) -> Places
+    requires { ⌜ Limited c ⌝ }
+    ensures { λ r. ⌜ r ≡ generatorPlaces c ⌝ }
+{
+    Places {
+        start: 3,
+        stride: 1 + 2 * c.cells,
+        width: c.cells,
+        count: c.generators,
+    }
+}
+
+// Where the cells of the exchanges stand, behind the generators.
+fn exchange_places(c: Counts) -> Places
+    requires { ⌜ Limited c ⌝ }
+    ensures { λ r. ⌜ r ≡ exchangePlaces c ⌝ }
+{
+    Places {
+        start: 3 + c.generators * (1 + 2 * c.cells),
+        stride: 1 + c.cells,
+        width: c.cells,
+        count: c.exchanges,
+    }
+}
+
+// Where the numbers of the rows stand, behind the exchanges.
+fn row_places(c: Counts) -> Places
+    requires { ⌜ Limited c ⌝ }
+    ensures { λ r. ⌜ r ≡ rowPlaces c ⌝ }
+{
+    Places {
+        start: head_of(c) + 1,
+        stride: pair_of(c),
+        width: c.cells,
+        count: c.rows,
+    }
+}
+
+// Where the coefficients stand, each row's behind the row.
+fn coefficient_places(c: Counts) -> Places
+    requires { ⌜ Limited c ⌝ }
+    ensures { λ r. ⌜ r ≡ coefficientPlaces c ⌝ }
+{
+    Places {
+        start: head_of(c) + 1 + (1 + 2 * c.cells),
+        stride: pair_of(c),
+        width: c.generators,
+        count: c.rows,
+    }
+}
+
+// Where the numbers of the vector stand, behind the exchanges.
+fn vector_places(c: Counts) -> Places
+    requires { ⌜ Limited c ⌝ }
+    ensures { λ r. ⌜ r ≡ vectorPlaces c ⌝ }
+{
+    Places {
+        start: head_of(c) + 1,
+        stride: 1 + 4 * c.cells,
+        width: c.cells,
+        count: 1,
+    }
+}
+
+// The place of number i, `size` bytes to a number.
+fn place_of(order: &[u8], p: Places, size: usize, i: usize) -> usize
+    requires { ⌜ LieWithin (now order) p size × (i < p .count * p .width) ⌝ }
+    ensures { λ r. ⌜ r ≡ placeOf p size i ⌝ }
+{
+    p.start + i / p.width * p.stride + size * (i % p.width)
+}
+
+// The numbers of two bytes at their places, into an area.
+fn read_shorts(order: &[u8], p: Places, area: &mut [i32])
+    requires { ⌜ LieWithin (now order) p 2 × (p .count * p .width ≤ length (now area)) ⌝ }
+    ensures { λ _. ⌜ now (area .exit) ≡ paste (now (area .entry)) 0 (numbersIn (shortAt (now (order .entry))) p 2) (p .count * p .width) ⌝ }
+{
+    let total = p.count * p.width;
+    let mut i = 0;
+    while i < total {
+        let at = place_of(order, p, 2, i);
+        area[i] = short_at(order, at);
+        i += 1;
+    }
+}
+
+// The bytes at their places, into an area.
+fn read_bytes(order: &[u8], p: Places, area: &mut [u8])
+    requires { ⌜ LieWithin (now order) p 1 × (p .count * p .width ≤ length (now area)) ⌝ }
+    ensures { λ _. ⌜ now (area .exit) ≡ paste (now (area .entry)) 0 (numbersIn (λ at. getD (now (order .entry)) at 0) p 1) (p .count * p .width) ⌝ }
+{
+    let total = p.count * p.width;
+    let mut i = 0;
+    while i < total {
+        let at = place_of(order, p, 1, i);
+        area[i] = order[at];
+        i += 1;
+    }
+}
+
+// The numbers of four bytes at their places, into an area.
+fn read_words(order: &[u8], p: Places, area: &mut [i32])
+    requires { ⌜ LieWithin (now order) p 4 × (p .count * p .width ≤ length (now area)) ⌝ }
+    ensures { λ _. ⌜ now (area .exit) ≡ paste (now (area .entry)) 0 (numbersIn (wordAt (now (order .entry))) p 4) (p .count * p .width) ⌝ }
+{
+    let total = p.count * p.width;
+    let mut i = 0;
+    while i < total {
+        let at = place_of(order, p, 4, i);
+        area[i] = word_at(order, at);
+        i += 1;
+    }
+}
+
+// The numbers of four bytes at their places, into an area of wide numbers.
+fn read_wide_words(order: &[u8], p: Places, area: &mut [i64])
+    requires { ⌜ LieWithin (now order) p 4 × (p .count * p .width ≤ length (now area)) ⌝ }
+    ensures { λ _. ⌜ now (area .exit) ≡ paste (now (area .entry)) 0 (numbersIn (wordAt (now (order .entry))) p 4) (p .count * p .width) ⌝ }
+{
+    let total = p.count * p.width;
+    let mut i = 0;
+    while i < total {
+        let at = place_of(order, p, 4, i);
+        area[i] = word_at(order, at) as i64;
+        i += 1;
+    }
+}
+
+// The numbers of the generators, into an area.
+pub fn read_generators(order: &[u8], c: Counts, area: &mut [i32])
+    requires { ⌜ Limited c × (headOf c ≤ length (now order)) × (c .generators * c .cells ≤ length (now area)) ⌝ }
+    ensures { λ _. ⌜ now (area .exit) ≡ paste (now (area .entry)) 0 (generatorsIn (now (order .entry)) c) (c .generators * c .cells) ⌝ }
+{
+    read_shorts(order, generator_places(c), area);
+}
+
+// The cells of the exchanges, into an area.
+pub fn read_exchanges(order: &[u8], c: Counts, area: &mut [u8])
+    requires { ⌜ Limited c × (headOf c ≤ length (now order)) × (c .exchanges * c .cells ≤ length (now area)) ⌝ }
+    ensures { λ _. ⌜ now (area .exit) ≡ paste (now (area .entry)) 0 (exchangesIn (now (order .entry)) c) (c .exchanges * c .cells) ⌝ }
+{
+    read_bytes(order, exchange_places(c), area);
+}
+
+// The numbers of the rows, into an area.
+pub fn read_rows(order: &[u8], c: Counts, area: &mut [i32])
+    requires { ⌜ Limited c × (headOf c + c .rows * pairOf c ≤ length (now order)) × (c .rows * c .cells ≤ length (now area)) ⌝ }
+    ensures { λ _. ⌜ now (area .exit) ≡ paste (now (area .entry)) 0 (rowsIn (now (order .entry)) c) (c .rows * c .cells) ⌝ }
+{
+    read_shorts(order, row_places(c), area);
+}
+
+// The coefficients of the rows, into an area.
+pub fn read_coefficients(order: &[u8], c: Counts, area: &mut [i64])
+    requires { ⌜ Limited c × (headOf c + c .rows * pairOf c ≤ length (now order)) × (c .rows * c .generators ≤ length (now area)) ⌝ }
+    ensures { λ _. ⌜ now (area .exit) ≡ paste (now (area .entry)) 0 (coefficientsIn (now (order .entry)) c) (c .rows * c .generators) ⌝ }
+{
+    read_wide_words(order, coefficient_places(c), area);
+}
+
+// The numbers of the vector, into an area.
+pub fn read_vector(order: &[u8], c: Counts, area: &mut [i32])
+    requires { ⌜ Limited c × (headOf c + (1 + 4 * c .cells) ≤ length (now order)) × (c .cells ≤ length (now area)) ⌝ }
+    ensures { λ _. ⌜ now (area .exit) ≡ paste (now (area .entry)) 0 (vectorIn (now (order .entry)) c) (c .cells) ⌝ }
+{
+    read_words(order, vector_places(c), area);
+}
