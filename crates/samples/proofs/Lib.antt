@@ -1,0 +1,2 @@
+-- A law for the functions of this crate.
+pub mod Areas

@@ -1,0 +1,288 @@
+// Works the sample orders of Specification 10 by the lent calls, and prints the name and the answer of each. The file `stdout`, with which
+// the check compares this, was not made by a run: the answers are those of the specification's table, laid out by its section 9. The 15 rows
+// of 14, which the table only counts, come from a search through all 3 by 3 tables with zero sums and no entry past 3, and 4ti2's `graver`
+// gives the same: each has the sign that makes it the greater of the two (2.6), and they stand in list order (2.7).
+ghost use mathlib.Core.Path.{_≡_};
+ghost use Prim.Native.Nat.{_≤_, _<_};
+ghost use Rattle.definitions.specs.Limits.{cells};
+ghost use Rattle.answers.specs.Answers.{lineCount};
+use definitions::Answer;
+use refusals::limits::GROUP_LIMIT;
+use refusals::limits::LIST_LIMIT;
+use refusals::limits::PIECE_WIDTH;
+use vectors::CELLS;
+
+// The list rows that programs lend (Specification 1.2), for the most cells.
+const LIST_AREA: usize = LIST_LIMIT * CELLS;
+
+// The group rows that programs lend, for the most cells.
+const GROUP_AREA: usize = GROUP_LIMIT * CELLS;
+
+// The 64 pieces that programs lend.
+const PIECES_AREA: usize = 64 * PIECE_WIDTH;
+
+// The bytes of the longest text (Specification 9.4).
+const TEXT_LIMIT: usize = 14_368;
+
+// The generators of P2 and P7.
+const GENERATORS_2: [i32; 2] = [2, 3];
+
+// The generators of P3 and P12.
+const GENERATORS_3: [i32; 6] = [1, -1, 0, 0, 1, -1];
+
+// The generators of P4 and P5.
+const GENERATORS_4: [i32; 9] = [1, 0, -1, 2, -1, 0, 0, -1, 2];
+
+// The exchange of P4 and P5.
+const EXCHANGE_4: [u8; 3] = [3, 2, 1];
+
+// ---- calls
+
+// The lines of numbers that the text of an answer has.
+fn line_count(answer: Answer) -> u64
+    ensures { λ r. ⌜ r ≡ lineCount answer ⌝ }
+{
+    match answer {
+        Answer::Moves {
+            rows,
+            order,
+            stored,
+            sums,
+        } => rows,
+        Answer::Split {
+            pieces,
+            rows,
+            order,
+            stored,
+            sums,
+        } => pieces,
+        Answer::Passed { rows, sums } => 0,
+        Answer::Refused { number, place } => 0,
+    }
+}
+
+// Prints the name of a sample and the text of its answer (Specification 9). Both tests are always met: the area of an accepted call holds as
+// many rows as the answer counts, and no text is longer. If one were not met, the missing text would show against `stdout`.
+fn show(name: &[u8], answer: Answer, numbers: &[i32], width: usize)
+    requires { ⌜ 1 ≤ width ⌝ }
+{
+    io::write_all(1, name);
+    let lines = line_count(answer) as usize;
+    if lines <= numbers.len() / width {
+        let mut text = [0u8; TEXT_LIMIT];
+        let end = answers::write_answer(&mut text, answer, numbers, width);
+        if end <= TEXT_LIMIT {
+            io::write_all(1, &text[..end]);
+        }
+    }
+}
+
+// A List on these areas.
+fn list_in(
+    name: &[u8],
+    n: usize,
+    generators: &[i32],
+    exchanges: &[u8],
+    list: &mut [i32],
+    group: &mut [u8],
+)
+    requires { ⌜ 1 ≤ n ⌝ }
+{
+    let answer = moves::list(n, generators, exchanges, &mut *list, &mut *group);
+    show(name, answer, &*list, n);
+}
+
+// A List on the areas that programs lend.
+fn list(name: &[u8], n: usize, generators: &[i32], exchanges: &[u8])
+    requires { ⌜ (1 ≤ n) × (n ≤ cells) ⌝ }
+{
+    let mut list = [0i32; LIST_AREA];
+    let mut group = [0u8; GROUP_AREA];
+    let rows = LIST_LIMIT * n;
+    let table = GROUP_LIMIT * n;
+    list_in(
+        name,
+        n,
+        generators,
+        exchanges,
+        &mut list[..rows],
+        &mut group[..table],
+    );
+}
+
+// A Split without exchanges, on the areas that programs lend.
+fn split(name: &[u8], n: usize, generators: &[i32], vector: &[i32])
+    requires { ⌜ n ≤ cells ⌝ }
+{
+    let mut list = [0i32; LIST_AREA];
+    let mut group = [0u8; GROUP_AREA];
+    let mut pieces = [0i32; PIECES_AREA];
+    let rows = LIST_LIMIT * n;
+    let table = GROUP_LIMIT * n;
+    let answer = moves::split(
+        n,
+        generators,
+        b"",
+        vector,
+        &mut list[..rows],
+        &mut group[..table],
+        &mut pieces,
+    );
+    show(name, answer, &pieces, PIECE_WIDTH);
+}
+
+// A Check without exchanges, on the area that programs lend. The answer has no lines of numbers.
+fn check(name: &[u8], n: usize, generators: &[i32], rows: &[i32], coefficients: &[i64])
+    requires { ⌜ n ≤ cells ⌝ }
+{
+    let mut group = [0u8; GROUP_AREA];
+    let table = GROUP_LIMIT * n;
+    let answer = moves::check(n, generators, b"", rows, coefficients, &mut group[..table]);
+    show(name, answer, rows, 1);
+}
+
+// ---- samples
+
+// P1: no generators.
+fn p1() {
+    let generators = [0i32; 0];
+    list(b"P1\n", 1, &generators, b"");
+}
+
+// P2: (2) and (3).
+fn p2() {
+    list(b"P2\n", 1, &GENERATORS_2, b"");
+}
+
+// P3: the differences of neighbouring cells.
+fn p3() {
+    list(b"P3\n", 3, &GENERATORS_3, b"");
+}
+
+// P4: the order of the sample file.
+fn p4() {
+    list(b"P4\n", 3, &GENERATORS_4, &EXCHANGE_4);
+}
+
+// P5: P4 with two list rows lent.
+fn p5() {
+    let mut list = [0i32; 6];
+    let mut group = [0u8; GROUP_AREA];
+    let table = GROUP_LIMIT * 3;
+    list_in(
+        b"P5\n",
+        3,
+        &GENERATORS_4,
+        &EXCHANGE_4,
+        &mut list,
+        &mut group[..table],
+    );
+}
+
+// P6: entries at the limit, and a remainder past it.
+fn p6() {
+    let generators = [10_000i32, 1, 1, 10_000];
+    list(b"P6\n", 2, &generators, b"");
+}
+
+// P7: (5) by (2) and (3).
+fn p7() {
+    let vector = [5i32];
+    split(b"P7\n", 1, &GENERATORS_2, &vector);
+}
+
+// P8: (1) is no multiple of (2).
+fn p8() {
+    let generators = [2i32];
+    let vector = [1i32];
+    split(b"P8\n", 1, &generators, &vector);
+}
+
+// P9: an exchange that does not keep the generators.
+fn p9() {
+    let generators = [1i32, 0];
+    let exchanges = [2u8, 1];
+    list(b"P9\n", 2, &generators, &exchanges);
+}
+
+// P10: a row that is twice another.
+fn p10() {
+    let generators = [1i32];
+    let rows = [1i32, 2];
+    let coefficients = [1i64, 2];
+    check(b"P10\n", 1, &generators, &rows, &coefficients);
+}
+
+// P11: no rows.
+fn p11() {
+    let generators = [1i32];
+    let rows = [0i32; 0];
+    let coefficients = [0i64; 0];
+    check(b"P11\n", 1, &generators, &rows, &coefficients);
+}
+
+// P12: a list that is one row short.
+fn p12() {
+    let coefficients = [1i64, 0, 0, 1];
+    check(b"P12\n", 3, &GENERATORS_3, &GENERATORS_3, &coefficients);
+}
+
+// Writes generator k of the 3 by 3 table: the move of the rows a and c and the columns b and d (Specification 10).
+fn put_move(generators: &mut [i32; 81], k: usize, a: usize, c: usize, b: usize, d: usize)
+    requires { ⌜ (k < 9) × (a < 3) × (c < 3) × (b < 3) × (d < 3) ⌝ }
+{
+    generators[9 * k + 3 * a + b] = 1;
+    generators[9 * k + 3 * a + d] = -1;
+    generators[9 * k + 3 * c + b] = -1;
+    generators[9 * k + 3 * c + d] = 1;
+}
+
+// The nine moves of the 3 by 3 table with four nonzero entries.
+fn nine_moves() -> [i32; 81] {
+    let mut generators = [0i32; 81];
+    put_move(&mut generators, 0, 0, 1, 0, 1);
+    put_move(&mut generators, 1, 0, 1, 0, 2);
+    put_move(&mut generators, 2, 0, 1, 1, 2);
+    put_move(&mut generators, 3, 0, 2, 0, 1);
+    put_move(&mut generators, 4, 0, 2, 0, 2);
+    put_move(&mut generators, 5, 0, 2, 1, 2);
+    put_move(&mut generators, 6, 1, 2, 0, 1);
+    put_move(&mut generators, 7, 1, 2, 0, 2);
+    put_move(&mut generators, 8, 1, 2, 1, 2);
+    generators
+}
+
+// 13: the moves of the 3 by 3 table, with the swap of rows 0 and 1, the swap of rows 1 and 2, and the transposition.
+fn s13() {
+    let generators = nine_moves();
+    list(
+        b"13\n",
+        9,
+        &generators,
+        b"\x04\x05\x06\x01\x02\x03\x07\x08\x09\x01\x02\x03\x07\x08\x09\x04\x05\x06\x01\x04\x07\x02\x05\x08\x03\x06\x09",
+    );
+}
+
+// 14: the moves of the 3 by 3 table without exchanges.
+fn s14() {
+    let generators = nine_moves();
+    list(b"14\n", 9, &generators, b"");
+}
+
+// Every sample, in the order of the table.
+fn main() {
+    p1();
+    p2();
+    p3();
+    p4();
+    p5();
+    p6();
+    p7();
+    p8();
+    p9();
+    p10();
+    p11();
+    p12();
+    s13();
+    s14();
+}
