@@ -1,30 +1,26 @@
 -- How a Check ends, and what that promises (Specification 5 and 7.4). Assumes nothing.
 use mathlib.Core.Path.{_≡_, refl, sym, _∙_, ap, ap₂, subst}
-use mathlib.Core.Bool.{Bool, _&&_}
 use mathlib.Core.List.{List, [], _∷_}
 use Prim.Native.Nat.{ℕ, _*_, _/_, _≤_}
 use native.Mathlib.Omega.{arith}
-use borrow.Author.Tests.{not-false, eqb-true, leb-true}
-use lib.Dec.{eqb, leb}
 use lib.IntN.{ℤ}
 use lib.ListN.{length, replicate}
 use Rattle.definitions.specs.declared.Answer.{Answer}
 use Rattle.definitions.specs.declared.Answer.the-variants.{Passed, Refused}
 use Rattle.definitions.specs.declared.Fault.{Fault}
 use Rattle.definitions.specs.declared.Fault.the-variants.{None, At}
-use Rattle.definitions.specs.Limits.{exchangeLimit, generatorLimit, listLimit}
 use Rattle.definitions.specs.Lists.{concat}
 use Rattle.definitions.specs.Group.{Exchange}
 use Rattle.definitions.specs.Completion.{sumCount}
-use Rattle.definitions.specs.Lent.{Order, chunks, exchangesOf, filled, generatorsOf, tableOf, vectorsOf, wholeRows, wholeRowsUpTo}
-use Rattle.definitions.specs.Refusals.{cellsFault, checkSizeFault, firstFault, orderFault, orderFits, rowsFault}
+use Rattle.definitions.specs.Lent.{Order, chunks, exchangesOf, filled, generatorsOf, tableOf, vectorsOf}
+use Rattle.definitions.specs.Refusals.{cellsFault, checkSizeFault, firstFault, orderFault, rowsFault}
 use Rattle.definitions.specs.Calls.{checkCall, checkEnd, checkFault, rulesFault}
 use Rattle.definitions.specs.Demands.{RulesKept, Whole}
-use Rattle.theory.proofs.Tests.{and-true-left, and-true-right}
 use Rattle.theory.proofs.Whole.{orbits-positive}
 use Rattle.theory.proofs.Areas.{filled-nothing}
 use Rattle.theory.proofs.CheckCall.{check-answer, check-conformal, check-whole, rows-limited, rows-stored, rules-facts, vectors-count}
-use Rattle.theory.proofs.Faults.{first-append, first-nested, if-none, met-first, unmet-second}
+use Rattle.theory.proofs.Faults.{first-append, first-nested, met-first, unmet-second}
+use Rattle.theory.proofs.Sizes.{sizes-of-check}
 use Rattle.moves.specs.declared.Checked.{Checked}
 use Rattle.moves.specs.declared.Checked.the-variants as checked
 use Rattle.moves.specs.Found.{Checks, Grouped, Sized, broughtFault, checkedOf}
@@ -63,24 +59,9 @@ brought-ready {n} {g} {generators} {rows} {coefficients} {group} G Z passed =
 
 -- 6 is not met
 pub sized-none : (order : Order) (rows coefficients : List ℤ) (groupSize : ℕ) → checkSizeFault order rows coefficients groupSize ≡ None → Sized (order .n) (order .generators) rows coefficients
-unfolding checkSizeFault orderFits wholeRowsUpTo
 sized-none order rows coefficients groupSize e =
-    let n = order .n in
-    let generatorsFit : Bool = wholeRows n (length (order .generators)) && leb (length (order .generators) / n) generatorLimit in
-    let exchangesFit : Bool = wholeRows n (length (order .exchanges)) && leb (length (order .exchanges) / n) exchangeLimit in
-    let rowsFit : Bool = wholeRows n (length rows) && leb (length rows / n) listLimit in
-    let needed : ℕ = length rows / n * (length (order .generators) / n) in
-    let a = not-false (generatorsFit && exchangesFit && wholeRows n groupSize && rowsFit && eqb (length coefficients) needed) (if-none 6 _ e) in
-    let b = and-true-left (generatorsFit && exchangesFit && wholeRows n groupSize && rowsFit) (eqb (length coefficients) needed) a in
-    let r = and-true-right (generatorsFit && exchangesFit && wholeRows n groupSize) rowsFit b in
-    let o = and-true-left (generatorsFit && exchangesFit) (wholeRows n groupSize) (and-true-left (generatorsFit && exchangesFit && wholeRows n groupSize) rowsFit b) in
-    let f = and-true-left generatorsFit exchangesFit o in
-    record {
-      whole = and-true-left (wholeRows n (length rows)) (leb (length rows / n) listLimit) r;
-      few = leb-true (length rows / n) listLimit (and-true-right (wholeRows n (length rows)) (leb (length rows / n) listLimit) r);
-      generatorsFew = leb-true (length (order .generators) / n) generatorLimit (and-true-right (wholeRows n (length (order .generators))) (leb (length (order .generators) / n) generatorLimit) f);
-      oneEach = eqb-true (length coefficients) needed (and-true-right (generatorsFit && exchangesFit && wholeRows n groupSize && rowsFit) (eqb (length coefficients) needed) a);
-    }
+    let Z = sizes-of-check order rows coefficients groupSize e in
+    record { whole = Z .whole; few = Z .few; generatorsFew = Z .sized .generators; oneEach = Z .oneEach }
 
 module _ (order : Order) (brought coefficients : List ℤ) (groupSize : ℕ) where
   abbrev table : List Exchange

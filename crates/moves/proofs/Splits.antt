@@ -1,14 +1,14 @@
 -- How a Split ends, and what that promises (Specification 4 and 7.4). Assumes nothing.
 use mathlib.Core.Path.{_≡_, refl, sym, _∙_, ap, ap₂, subst}
 use mathlib.Core.Logic.{_↔_, ⊎-elim}
-use mathlib.Core.Bool.{true, not, _&&_}
+use mathlib.Core.Bool.{true, not}
 use mathlib.Core.List.{List, [], _∷_, map}
 use Prim.Native.Nat.{ℕ, _-_, _*_, _/_, _≤_}
 use native.Mathlib.Omega.{arith}
-use borrow.Author.Tests.{eqb-true, leb-true, not-false}
+use borrow.Author.Tests.{leb-true, not-false}
 use denote.Enum.Declared.{tagOf}
 use types.Run.{OneOf}
-use lib.Dec.{eqb, leb}
+use lib.Dec.{leb}
 use lib.IntN.{ℤ, pos}
 use lib.ListN.{length, getD, replicate, take, drop}
 use lib.Seq.{take-length}
@@ -22,15 +22,15 @@ use Rattle.definitions.specs.Vector.{Vector, isZero, padded, within}
 use Rattle.definitions.specs.Group.{Exchange}
 use Rattle.definitions.specs.Completion.{Completion, completed, finalRows, running, stopped}
 use Rattle.definitions.specs.Split.{Image, Splitting, placedOrbits, splitting, written}
-use Rattle.definitions.specs.Lent.{Order, chunks, filled, generatorsOf, listRows, numbersOf, tableOf, wholeRows}
+use Rattle.definitions.specs.Lent.{Order, chunks, filled, generatorsOf, listRows, numbersOf, tableOf}
 use Rattle.definitions.specs.Refusals.{Outcome, accepted, refused, cellsFault, faultIf, faultWhere, firstFault, isPast, listSizeFault, orderFault, splitFault, splitSizeFault, unlessFault}
 use Rattle.definitions.specs.Calls.{ListEnd, Listing, Parts, SplitEnd, listCall, listEnd, listing, listingOf, parts, partsOf, splitCall, splitEnd}
 use Rattle.definitions.proofs.Answer.{the-type}
-use Rattle.theory.proofs.Tests.{and-true-left}
 use Rattle.theory.proofs.Lists.{chunks-length}
 use Rattle.theory.proofs.Members.{Each, each-nil, each-append, each-from, each-head, each-tail}
 use Rattle.theory.proofs.Bounds.{Within, each-within, within-each, within-more}
 use Rattle.theory.proofs.Areas.{filled-nothing}
+use Rattle.theory.proofs.Sizes.{sizes-of-split}
 use Rattle.theory.proofs.Faults.{accepted-refused, if-none, met-first, tests-none, unless-none, unmet-first}
 use Rattle.theory.proofs.Accepted.{cells-none, each-take, padded-within, past-where, zeros-within}
 use Rattle.theory.proofs.Rows.{rows-count}
@@ -69,12 +69,10 @@ vector-within vector e = each-within splitLimit (padded-within (past-where 14 sp
 
 -- 5 and 6 are not met: it has n numbers
 pub vector-sized : (n : ℕ) (vector : List ℤ) (piecesSize : ℕ) → firstFault (cellsFault n ∷ splitSizeFault n vector piecesSize ∷ []) ≡ None → length vector ≡ n
-unfolding splitSizeFault
 vector-sized n vector piecesSize e =
     let a = tests-none (cellsFault n) _ e in
     let b = tests-none (splitSizeFault n vector piecesSize) _ (a .1) in
-    let c = not-false (eqb (length vector) n && wholeRows pieceWidth piecesSize) (if-none 6 _ (b .0)) in
-    eqb-true (length vector) n (and-true-left (eqb (length vector) n) (wholeRows pieceWidth piecesSize) c)
+    sizes-of-split n vector piecesSize (b .0)
 
 -- three areas were cleared
 pub ends-refused : {n listSize groupSize piecesSize number place : ℕ} {list : List ℤ} {group : List ℕ} {pieces : List ℤ} → list ≡ filled (pos 0) listSize [] → group ≡ filled 0 groupSize [] → pieces ≡ filled (pos 0) piecesSize []

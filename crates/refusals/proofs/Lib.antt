@@ -1,5 +1,4 @@
 -- Laws that the proofs of the tests share, and what passed tests give to those that follow.
 pub mod Turns
 pub mod Rows
-pub mod Sizes
 pub mod Passed

@@ -10,7 +10,7 @@ use lib.IntN.{ℤ, pos, natAbs}
 use lib.ListN.{length, getD, take, drop, replicate, length-append, length-replicate, length-take}
 use native.Mathlib.Omega.{arith}
 use Rattle.definitions.specs.declared.Fault.the-variants.{None}
-use Rattle.definitions.specs.Limits.{cells, entryLimit}
+use Rattle.definitions.specs.Limits.{cells, entryLimit, groupLimit}
 use Rattle.definitions.specs.Vector.{Vector, isMember, isZero, negative, padded, plus, zeroVector}
 use Rattle.definitions.specs.Lattice.{InLattice}
 use Rattle.definitions.specs.Group.{Exchange, exchanged, isExchange}
@@ -122,6 +122,11 @@ order-none order groupSize e =
 
     sent : List Exchange
     sent = exchangesOf order
+
+-- the table has at most so many rows as a group may have members
+pub table-small : (order : Order) (groupSize : ℕ) → orderFault order groupSize ≡ None → length (tableOf order groupSize) ≤ groupLimit
+unfolding groupRows
+table-small order groupSize e = omega (arith, order-none order groupSize e .roomy)
 
 -- ---- the lattice is kept
 is-generator : (generators : List Vector) → Each (λ g. length g ≡ cells) generators → (v : Vector) → isGenerator generators v ≡ true → InLattice generators v

@@ -2,29 +2,28 @@
 -- vector is a sum of images of rows, none opposing it. Assumes nothing.
 use mathlib.Core.Path.{_≡_, refl, sym, _∙_, ap, subst, ap₂}
 use mathlib.Core.Logic.{_↔_}
-use mathlib.Core.Bool.{Bool, true, false, not, _||_, _&&_}
+use mathlib.Core.Bool.{true, false, not, _||_}
 use mathlib.Core.List.{List, []}
 use Prim.Native.Nat.{ℕ, suc, _*_, _/_, _≤_, _<_}
-use borrow.Author.Tests.{not-false, eqb-true}
-use lib.Dec.{eqb}
+use borrow.Author.Tests.{not-false}
 use lib.IntN.{ℤ}
 use lib.ListN.{length, getD, length-map}
 use native.Mathlib.Omega.{arith}
 use Rattle.definitions.specs.declared.Answer.the-variants.{Passed}
 use Rattle.definitions.specs.declared.Fault.{Fault}
 use Rattle.definitions.specs.declared.Fault.the-variants.{None, At}
-use Rattle.definitions.specs.Limits.{coefficientLimit, entryLimit, listLimit}
+use Rattle.definitions.specs.Limits.{coefficientLimit, entryLimit}
 use Rattle.definitions.specs.Lists.{any}
 use Rattle.definitions.specs.Vector.{Vector, equal, isZero, padded, within}
 use Rattle.definitions.specs.Lattice.{InLattice, combination}
 use Rattle.definitions.specs.Group.{Exchange, identity, unit}
 use Rattle.definitions.specs.Orbit.{IsImage, precedes, representative}
 use Rattle.definitions.specs.Completion.{hasOtherBelow, remainder, sumCount}
-use Rattle.definitions.specs.Lent.{Order, chunks, exchangesOf, generatorsOf, rowsOf, tableOf, vectorsOf, wholeRows, wholeRowsUpTo}
-use Rattle.definitions.specs.Refusals.{cellsFault, checkSizeFault, faultWhere, isMisplaced, isPast, isUncertified, isUnfit, orderFault, orderFits, rowsFault, wholenessFault}
+use Rattle.definitions.specs.Lent.{Order, chunks, exchangesOf, generatorsOf, rowsOf, tableOf, vectorsOf}
+use Rattle.definitions.specs.Refusals.{cellsFault, checkSizeFault, faultWhere, isMisplaced, isPast, isUncertified, isUnfit, orderFault, rowsFault, wholenessFault}
 use Rattle.definitions.specs.Calls.{checkCall, checkEnd, checkFault, rulesFault}
 use Rattle.definitions.specs.Demands.{ConformalSum, InOrder, RulesKept, Whole}
-use Rattle.theory.proofs.Tests.{and-true-right, or-false-left, or-false-right}
+use Rattle.theory.proofs.Tests.{or-false-left, or-false-right}
 use Rattle.theory.proofs.Lists.{chunks-length, row-long}
 use Rattle.theory.proofs.Members.{Each, each-from, each-member, member-place}
 use Rattle.theory.proofs.Below.{unopposed}
@@ -35,7 +34,8 @@ use Rattle.theory.proofs.Equal.{equal-same}
 use Rattle.theory.proofs.Sums.{sums-none}
 use Rattle.theory.proofs.InOrder.{in-order-ordered, ordered-once}
 use Rattle.theory.proofs.Listing.{Passes, passes-conformal, passes-whole, whole-passes}
-use Rattle.theory.proofs.Faults.{if-none, none-all, none-end, tests-none, where-none}
+use Rattle.theory.proofs.Faults.{none-all, none-end, tests-none, where-none}
+use Rattle.theory.proofs.Sizes.{sizes-of-check}
 use Rattle.theory.proofs.Accepted.{order-symmetric}
 
 pub vectors-count : (n : ℕ) (numbers : List ℤ) → length (vectorsOf n numbers) ≡ length numbers / n
@@ -118,13 +118,7 @@ module _ (order : Order) (brought coefficients : List ℤ) (groupSize : ℕ) whe
     pub nonempty : 0 < length table
 
   counts : checkSizeFault order brought coefficients groupSize ≡ None → length rows * length (generatorsOf order) ≤ length coefficients
-  unfolding checkSizeFault
-  counts e =
-      let first : Bool = orderFits order && wholeRows (order .n) groupSize && wholeRowsUpTo listLimit (order .n) (length brought) in
-      let needed : ℕ = length brought / order .n * (length (order .generators) / order .n) in
-      let b = not-false (first && eqb (length coefficients) needed) (if-none 6 (not (first && eqb (length coefficients) needed)) e) in
-      let d = eqb-true (length coefficients) needed (and-true-right first (eqb (length coefficients) needed) b) in
-      omega (arith, d, ap₂ _*_ (vectors-count (order .n) brought) (generators-count order))
+  counts e = omega (arith, sizes-of-check order brought coefficients groupSize e .oneEach, ap₂ _*_ (vectors-count (order .n) brought) (generators-count order))
 
   pub rules-facts : RulesKept order brought coefficients groupSize → RulesFacts
   unfolding rulesFault

@@ -137,45 +137,52 @@ pub none-if : (number : ℕ) {met : Bool} → met ≡ false → faultIf number m
 unfolding faultIf
 none-if number e = ap (λ (b : Bool). cond b (At number 0) None) e
 
--- ---- the numbers of refusals
-abbrev NumberIs : (P : ℕ → Type 0) → Fault → Type 0
-NumberIs P None = Unit {0}
-NumberIs P (At number place) = P number
+-- ---- what a refusal says
+abbrev SaidIs : (P : (number place : ℕ) → Type 0) → Fault → Type 0
+SaidIs P None = Unit {0}
+SaidIs P (At number place) = P number place
 
--- the number, if there is one, satisfies P
-pub record Numbered (P : ℕ → Type 0) (fault : Fault) : Type 0 where
-  pub number : NumberIs P fault
+-- the number and the place, if there are any, satisfy P
+pub record Said (P : (number place : ℕ) → Type 0) (fault : Fault) : Type 0 where
+  pub said : SaidIs P fault
 
-pub numbered-end : (P : ℕ → Type 0) → Numbered P (firstFault [])
+-- of no refusal there is nothing to say
+pub said-none : (P : (number place : ℕ) → Type 0) → Said P None
+said-none P = record { said = tt }
+
+pub said-end : (P : (number place : ℕ) → Type 0) → Said P (firstFault [])
 unfolding firstFault
-numbered-end P = record { number = tt }
+said-end P = said-none P
 
-pub numbered-first : {P : ℕ → Type 0} {fault : Fault} (faults : List Fault) → Numbered P fault → Numbered P (firstFault faults) → Numbered P (firstFault (fault ∷ faults))
+-- the other tests count only where the first is not met
+pub said-first : {P : (number place : ℕ) → Type 0} {fault : Fault} (faults : List Fault) → Said P fault → (fault ≡ None → Said P (firstFault faults)) → Said P (firstFault (fault ∷ faults))
 unfolding firstFault
-numbered-first {fault = None} faults h k = k
-numbered-first {fault = At number place} faults h k = record { number = h .number }
+said-first {fault = None} faults h k = k refl
+said-first {fault = At number place} faults h k = record { said = h .said }
 
-pub numbered-if : {P : ℕ → Type 0} (number : ℕ) (met : Bool) → P number → Numbered P (faultIf number met)
+-- a test whose place is 0
+pub said-if : {P : (number place : ℕ) → Type 0} (number : ℕ) (met : Bool) → P number 0 → Said P (faultIf number met)
 unfolding faultIf
-numbered-if number true h = record { number = h }
-numbered-if number false h = record { number = tt }
+said-if number true h = record { said = h }
+said-if {P} number false h = said-none P
 
-numbered-from : {P : ℕ → Type 0} (number place count : ℕ) (met : ℕ → Bool) → P number → Numbered P (faultFrom number place count met)
+said-from : {P : (number place : ℕ) → Type 0} (number place count : ℕ) (met : ℕ → Bool) → ((p : ℕ) → p < place + count → P number p) → Said P (faultFrom number place count met)
 unfolding faultFrom
-numbered-from number place zero met h = record { number = tt }
-numbered-from {P} number place (suc count) met h = go (met place) (numbered-from number (suc place) count met h)
+said-from {P} number place zero met h = said-none P
+said-from {P} number place (suc count) met h = go (met place) (said-from number (suc place) count met (λ p l. h p (omega arith)))
   where
-    go : (b : Bool) → Numbered P (faultFrom number (suc place) count met) → Numbered P (cond b (At number place) (faultFrom number (suc place) count met))
-    go true rest = record { number = h }
+    go : (b : Bool) → Said P (faultFrom number (suc place) count met) → Said P (cond b (At number place) (faultFrom number (suc place) count met))
+    go true rest = record { said = h place (omega arith) }
     go false rest = rest
 
-pub numbered-where : {P : ℕ → Type 0} (number count : ℕ) (met : ℕ → Bool) → P number → Numbered P (faultWhere number count met)
+-- a test at each of some places
+pub said-where : {P : (number place : ℕ) → Type 0} (number count : ℕ) (met : ℕ → Bool) → ((p : ℕ) → p < count → P number p) → Said P (faultWhere number count met)
 unfolding faultWhere
-numbered-where number count met h = numbered-from number 0 count met h
+said-where number count met h = said-from number 0 count met (λ p l. h p (omega arith))
 
 -- what is found has the test's number
 pub where-at : (number count : ℕ) (met : ℕ → Bool) (m p : ℕ) → faultWhere number count met ≡ At m p → m ≡ number
-where-at number count met m p e = subst (Numbered (λ k. k ≡ number)) e (numbered-where number count met refl) .number
+where-at number count met m p e = subst (Said (λ k place. k ≡ number)) e (said-where number count met (λ p l. refl)) .said
 
 -- ---- an outcome after tests
 pub accepted-refused : {A : Type 0} {X : Type 0} {found : A} {number place : ℕ} → _≡_ {A = Outcome A} (refused number place) (accepted found) → X
@@ -194,5 +201,5 @@ unless-refused None outcome e = inr (refl, e)
 unless-refused (At a b) outcome {number} {place} e = let p : a ≡ number = cc in let q : b ≡ place = cc in inl (λ i. At (p i) (q i))
 
 -- a fault with another number
-pub other-number : {X : Type 0} {number place : ℕ} (fault : Fault) → Numbered (λ m. ¬ (m ≡ number)) fault → fault ≡ At number place → X
-other-number {number = number} fault h e = absurd (subst (Numbered (λ m. ¬ (m ≡ number))) e h .number refl)
+pub other-number : {X : Type 0} {number place : ℕ} (fault : Fault) → Said (λ m p. ¬ (m ≡ number)) fault → fault ≡ At number place → X
+other-number {number = number} fault h e = absurd (subst (Said (λ m p. ¬ (m ≡ number))) e h .said refl)

@@ -32,9 +32,12 @@ pub mod Times
 pub mod Split
 pub mod Areas
 pub mod Faults
+pub mod Sizes
 pub mod Accepted
 pub mod ListCall
 pub mod SplitCall
 pub mod CheckCall
+pub mod Refused
+pub mod Counts
 pub mod Rows
 pub mod Held

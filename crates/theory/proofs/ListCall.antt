@@ -3,19 +3,18 @@
 use mathlib.Core.Path.{_≡_, refl, subst}
 use mathlib.Core.Logic.{_⊎_, inl, inr}
 use mathlib.Core.Bool.{not}
-use mathlib.Core.List.{List, [], _∷_}
+use mathlib.Core.List.{List, []}
 use Prim.Native.Nat.{ℕ, _≤_}
 use lib.Dec.{leb}
 use lib.ListN.{length}
 use native.Mathlib.Omega.{arith}
-use Rattle.definitions.specs.declared.Fault.{Fault}
-use Rattle.definitions.specs.declared.Fault.the-variants.{None, At}
-use Rattle.definitions.specs.Limits.{entryLimit, listLimit}
+use Rattle.definitions.specs.declared.Fault.the-variants.{None}
+use Rattle.definitions.specs.Limits.{entryLimit, groupLimit, listLimit}
 use Rattle.definitions.specs.Vector.{Vector, isZero, within, zeroVector}
 use Rattle.definitions.specs.Group.{Exchange}
 use Rattle.definitions.specs.Completion.{Completion, State, begun, completed, finalRows, isFinished, remainder, running, settled, step, stopped, storedRows, sumAt, sumCount}
 use Rattle.definitions.specs.Lent.{Order, exchangesOf, generatorsOf, listRows, tableOf}
-use Rattle.definitions.specs.Refusals.{accepted, cellsFault, firstFault, listSizeFault, orderFault, refused}
+use Rattle.definitions.specs.Refusals.{accepted, cellsFault, listSizeFault, orderFault}
 use Rattle.definitions.specs.Calls.{Listing, listing, listingOf}
 use Rattle.definitions.specs.Demands.{ListKept}
 use Rattle.theory.proofs.Members.{Each, each-member}
@@ -25,8 +24,8 @@ use Rattle.theory.proofs.Whole.{Stored}
 use Rattle.theory.proofs.Counting.{Tried, completed-tried, if-cases}
 use Rattle.theory.proofs.Completion.{Progress, Sound, completed-conformal, completed-sound, run-keeps, table-positive}
 use Rattle.theory.proofs.Listing.{final-few, final-in-order, final-keeps, final-stored, final-whole}
-use Rattle.theory.proofs.Faults.{Numbered, accepted-refused, numbered-end, numbered-first, numbered-if, numbered-where, tests-none, unless-none, unless-refused}
-use Rattle.theory.proofs.Accepted.{order-generators, order-symmetric}
+use Rattle.theory.proofs.Faults.{accepted-refused, tests-none, unless-none}
+use Rattle.theory.proofs.Accepted.{order-generators, order-symmetric, table-small}
 
 -- what an accepted listing rests on, for Split too
 pub record ListFacts (order : Order) (found : Listing) : Type 0 where
@@ -35,6 +34,7 @@ pub record ListFacts (order : Order) (found : Listing) : Type 0 where
   pub kept : ListKept order found
   pub few : length (found .rows) ≤ found .stored
   pub room : found .stored ≤ listLimit
+  pub small : length (found .table) ≤ groupLimit
 
 -- ---- the completion's end
 module _ (order : Order) (groupSize limit : ℕ) (e : cellsFault (order .n) ≡ None) (f : orderFault order groupSize ≡ None) where
@@ -59,6 +59,7 @@ module _ (order : Order) (groupSize limit : ℕ) (e : cellsFault (order .n) ≡ 
     };
     few = final-few table rows;
     room = omega (arith, tried .fits, h);
+    small = table-small order groupSize f;
   }
     where
       rows : List Vector
@@ -125,43 +126,3 @@ unfolding completed begun
 completed-stops table limit generators number place e =
     subst StopsBy e (run-keeps StopsBy table limit (step-stops table limit) (sumCount (length table) limit) (begun table limit generators)
     (if-cases StopsBy (leb (length (storedRows table [] generators)) limit) (λ e. tt) (λ e. inr refl)))
-
--- a List is refused by a number up to 13
-pub listing-number : (order : Order) (listSize groupSize number place : ℕ) → listing order listSize groupSize ≡ refused number place → number ≤ 13
-unfolding listing listingOf cellsFault listSizeFault orderFault
-listing-number order listSize groupSize number place e = go (unless-refused faults (listingOf table (completed table limit (generatorsOf order))) e)
-  where
-    table : List Exchange
-    table = tableOf order groupSize
-
-    limit : ℕ
-    limit = listRows (order .n) listSize
-
-    faults : Fault
-    faults = firstFault (cellsFault (order .n) ∷ listSizeFault order listSize groupSize ∷ orderFault order groupSize ∷ [])
-
-    Low : ℕ → Type 0
-    Low m = m ≤ 13
-
-    low : Numbered Low faults
-    low = numbered-first _ (numbered-if 5 _ (omega arith)) (numbered-first _ (numbered-if 6 _ (omega arith)) (numbered-first _ order-low (numbered-end Low)))
-      where
-        order-low : Numbered Low (orderFault order groupSize)
-        order-low =
-            numbered-first _ (numbered-where 7 _ _ (omega arith))
-            (numbered-first _ (numbered-where 8 _ _ (omega arith))
-            (numbered-first _ (numbered-where 9 _ _ (omega arith))
-            (numbered-first _ (numbered-if 10 _ (omega arith))
-            (numbered-first _ (numbered-where 11 _ _ (omega arith)) (numbered-end Low)))))
-
-    stops : (c : Completion) → completed table limit (generatorsOf order) ≡ c → listingOf table c ≡ refused number place → number ≤ 13
-    stops (running s) q x = let z : _≡_ {A = ℕ} 0 1 = cc in absurd (omega arith)
-    stops (stopped a b) q x = let y : a ≡ number = cc in last (completed-stops table limit (generatorsOf order) a b q) y
-      where
-        last : (a ≡ 12) ⊎ (a ≡ 13) → a ≡ number → number ≤ 13
-        last (inl p) y = omega arith
-        last (inr p) y = omega arith
-
-    go : (faults ≡ At number place) ⊎ ((faults ≡ None) × (listingOf table (completed table limit (generatorsOf order)) ≡ refused number place)) → number ≤ 13
-    go (inl x) = subst (Numbered Low) x low .number
-    go (inr x) = stops (completed table limit (generatorsOf order)) refl (x .1)

@@ -143,9 +143,10 @@ pub record Taken (images : List Image) (s : Vector) (piece : Piece) : Type 0 whe
   pub listed : List·Memᴰ (piece .image) images
   pub counted : 0 < piece .count
   pub lies : piece .image .vector ⊑ s
+  pub fits : share piece ⊑ s
 
 pub splitting-pieces : {images : List Image} → Each Fit images → (s : Vector) → length s ≡ cells → (piece : Piece) → List·Memᴰ piece (splitting images s .pieces) → Taken images s piece
-unfolding splitting withPiece
+unfolding splitting withPiece share
 splitting-pieces each-nil s p piece k = absurd (List·Memᴰ·not-nil k)
 splitting-pieces (each-cons {x = image} {xs = images} f t) s p piece k =
     go (times (image .vector) s) (times-below (image .vector) (f .0) (f .1) s p) (splitting images (after image s)) (λ l. splitting-pieces t (after image s) (length-after image s f p) piece l) k
@@ -154,7 +155,9 @@ splitting-pieces (each-cons {x = image} {xs = images} f t) s p piece k =
     lower count h = ⊑-rest h
 
     deeper : Taken images (after image s) piece → Taken (image ∷ images) s piece
-    deeper x = record { listed = List·Memᴰ·tail (x .listed); counted = x .counted; lies = ⊑-trans (x .lies) (lower (times (image .vector) s) (times-below (image .vector) (f .0) (f .1) s p)) }
+    deeper x =
+        let less = lower (times (image .vector) s) (times-below (image .vector) (f .0) (f .1) s p) in
+        record { listed = List·Memᴰ·tail (x .listed); counted = x .counted; lies = ⊑-trans (x .lies) less; fits = ⊑-trans (x .fits) less }
 
     pick : (count : ℕ) → scale (pos (suc count)) (image .vector) ⊑ s → (taken : Splitting) → (List·Memᴰ piece (taken .pieces) → Taken images (after image s) piece)
         → (piece ≡ record { image = image; count = suc count }) ⊎ List·Memᴰ piece (taken .pieces) → Taken (image ∷ images) s piece
@@ -162,6 +165,7 @@ splitting-pieces (each-cons {x = image} {xs = images} f t) s p piece k =
       listed = List·Memᴰ·head (ap (λ (x : Piece). x .image) e);
       counted = omega (arith, ap (λ (x : Piece). x .count) e);
       lies = subst (λ (x : Piece). x .image .vector ⊑ s) (sym e) (multiple-first count (image .vector) s h);
+      fits = subst (λ (x : Piece). share x ⊑ s) (sym e) h;
     }
     pick count h taken again (inr l) = deeper (again l)
 
@@ -238,7 +242,8 @@ placed row table (v ∷ rows) image m = go (List·Memᴰ·append-cases (placedOr
 
 -- ---- SPLIT over a whole list
 module _ {n : ℕ} {sent table : List Exchange} {generators : List Vector} (O : Symmetric n sent table generators) (rows : List Vector) (S : Stored O rows) where
-  fit-images : Each Fit (placedOrbits 0 table rows)
+  -- each image of a stored row can be taken
+  pub fit-images : Each Fit (placedOrbits 0 table rows)
   fit-images = each-of (placedOrbits 0 table rows) (λ image k.
       let m : List·Memᴰ (image .vector) (orbits table rows) = subst (List·Memᴰ (image .vector)) (placed-vectors 0 table rows) (mem-map (λ image. image .vector) (placedOrbits 0 table rows) k) in
       (inside-length O (each-member (orbits-inside O rows S) m), each-member (orbits-positive O rows S) m))

@@ -2,11 +2,11 @@
 -- not in the lattice. Assumes nothing.
 use mathlib.Core.Path.{_≡_, refl, sym, _∙_, ap, subst}
 use mathlib.Core.Logic.{_⊎_, inl, inr, _↔_}
-use mathlib.Core.Bool.{Bool, true, false, not, _&&_}
+use mathlib.Core.Bool.{Bool, true, false, not}
 use mathlib.Core.List.{List, [], _∷_}
-use Prim.Native.Nat.{ℕ, _/_}
-use borrow.Author.Tests.{not-false, eqb-true}
-use lib.Dec.{leb, eqb}
+use Prim.Native.Nat.{ℕ, _≤_, _/_}
+use borrow.Author.Tests.{leb-true, not-false}
+use lib.Dec.{leb}
 use lib.IntN.{ℤ, pos}
 use lib.ListN.{length, getD}
 use native.Mathlib.Omega.{arith}
@@ -18,27 +18,25 @@ use Rattle.definitions.specs.Lattice.{InLattice}
 use Rattle.definitions.specs.Orbit.{orbits}
 use Rattle.definitions.specs.Completion.{remainder}
 use Rattle.definitions.specs.Split.{Splitting, placedOrbits, splitting}
-use Rattle.definitions.specs.Lent.{Order, generatorsOf, wholeRows}
+use Rattle.definitions.specs.Lent.{Order, generatorsOf}
 use Rattle.definitions.specs.Refusals.{Outcome, accepted, cellsFault, faultIf, faultWhere, firstFault, isPast, refused, splitFault, splitSizeFault, unlessFault}
 use Rattle.definitions.specs.Calls.{Listing, Parts, listing, parts, partsOf}
 use Rattle.definitions.specs.Demands.{SplitKept}
-use Rattle.theory.proofs.Tests.{and-true-left, clash}
+use Rattle.theory.proofs.Tests.{clash}
 use Rattle.theory.proofs.Below.{⊑-length}
 use Rattle.theory.proofs.Reduction.{reduce-yields}
-use Rattle.theory.proofs.Bounds.{is-zero, zero-is}
+use Rattle.theory.proofs.Bounds.{Within, is-zero, zero-is}
 use Rattle.theory.proofs.Whole.{orbits-positive}
 use Rattle.theory.proofs.Split.{split-exact, split-kept, split-rest}
-use Rattle.theory.proofs.Faults.{Numbered, accepted-refused, if-none, none-if, numbered-end, numbered-first, numbered-if, numbered-where, other-number, tests-none, unless-none, unless-refused}
-use Rattle.theory.proofs.Accepted.{cells-none, padded-length}
-use Rattle.theory.proofs.ListCall.{ListFacts, listing-facts, listing-number}
+use Rattle.theory.proofs.Faults.{Said, accepted-refused, if-none, none-if, other-number, said-end, said-first, said-if, said-none, said-where, tests-none, unless-none, unless-refused}
+use Rattle.theory.proofs.Sizes.{sizes-of-split}
+use Rattle.theory.proofs.Accepted.{cells-none, padded-length, past-where}
+use Rattle.theory.proofs.ListCall.{ListFacts, listing-facts}
+use Rattle.theory.proofs.Refused.{list-reported}
 
 -- the vector to split has `cells` cells
 split-length : (n : ℕ) (vector : List ℤ) (piecesSize : ℕ) → cellsFault n ≡ None → splitSizeFault n vector piecesSize ≡ None → length (padded vector) ≡ cells
-unfolding splitSizeFault
-split-length n vector piecesSize e f =
-    let b = not-false (eqb (length vector) n && wholeRows pieceWidth piecesSize) (if-none 6 _ f) in
-    let l = eqb-true (length vector) n (and-true-left (eqb (length vector) n) (wholeRows pieceWidth piecesSize) b) in
-    padded-length vector (omega (arith, l, cells-none n e .most))
+split-length n vector piecesSize e f = padded-length vector (omega (arith, sizes-of-split n vector piecesSize f, cells-none n e .most))
 
 -- the splitting of a vector over a listing
 abbrev pub taken : Listing → (vector : List ℤ) → Splitting
@@ -77,56 +75,84 @@ module _ (order : Order) (vector : List ℤ) (listSize groupSize piecesSize : �
       let b = tests-none (splitSizeFault (order .n) vector piecesSize) _ (a .1) in
       split-length (order .n) vector piecesSize (a .0) (b .0)
 
-  -- SPLIT: an accepted one keeps demand 2
-  pub split-facts : (found : Parts) → parts order vector listSize groupSize piecesSize ≡ accepted found → SplitFacts order vector listSize groupSize found
+  -- an accepted Split: its List, and what met none of 14 to 16
+  pub record SplitMade (found : Parts) : Type 0 where
+    pub long : length (padded vector) ≡ cells
+    pub listed : listing order listSize groupSize ≡ accepted (found .listing)
+    pub pieces : found .pieces ≡ taken (found .listing) vector .pieces
+    pub limited : Within splitLimit vector
+    pub zero : isZero (taken (found .listing) vector .rest) ≡ true
+    pub room : length (found .pieces) ≤ piecesSize / pieceWidth
+
+  pub split-made : (found : Parts) → parts order vector listSize groupSize piecesSize ≡ accepted found → SplitMade found
   unfolding parts partsOf splitFault
-  split-facts found e =
+  split-made found e =
       let a = unless-none sizes (partsOf vector piecesSize (listing order listSize groupSize)) e in
       go (sizes-length (a .0)) (listing order listSize groupSize) refl (a .1)
     where
-      ended : length (padded vector) ≡ cells → (l : Listing) → listing order listSize groupSize ≡ accepted l → splitFault vector piecesSize (taken l vector) ≡ None → SplitFacts order vector listSize groupSize (record { listing = l; pieces = taken l vector .pieces })
+      ended : length (padded vector) ≡ cells → (l : Listing) → listing order listSize groupSize ≡ accepted l → splitFault vector piecesSize (taken l vector) ≡ None → SplitMade (record { listing = l; pieces = taken l vector .pieces })
       ended p l q f =
-          let F = listing-facts order listSize groupSize l q in
           let a = tests-none _ _ f in
           let b = tests-none _ _ (a .1) in
-          let z = not-false (isZero (taken l vector .rest)) (if-none 15 _ (b .0)) in
+          let c = tests-none _ _ (b .1) in
           record {
+            long = p;
             listed = q;
-            kept = split-kept (F .symmetric) (l .rows) (F .stored) (padded vector) p (is-zero (taken l vector .rest) (rest-length order l F vector p) z);
-            inLattice = rest-lattice order l F vector p .0 z;
+            pieces = refl;
+            limited = past-where 14 splitLimit vector (a .0);
+            zero = not-false (isZero (taken l vector .rest)) (if-none 15 _ (b .0));
+            room = leb-true _ _ (not-false (leb (length (taken l vector .pieces)) (piecesSize / pieceWidth)) (if-none 16 _ (c .0)));
           }
 
-      go : length (padded vector) ≡ cells → (o : Outcome Listing) → listing order listSize groupSize ≡ o → partsOf vector piecesSize o ≡ accepted found → SplitFacts order vector listSize groupSize found
+      go : length (padded vector) ≡ cells → (o : Outcome Listing) → listing order listSize groupSize ≡ o → partsOf vector piecesSize o ≡ accepted found → SplitMade found
       go p (refused number place) q x = accepted-refused x
       go p (accepted l) q x =
           let b = unless-none (splitFault vector piecesSize (taken l vector)) (accepted (record { listing = l; pieces = taken l vector .pieces })) x in
           let y : _≡_ {A = Parts} (record { listing = l; pieces = taken l vector .pieces }) found = (let w = b .1 in cc) in
-          subst (SplitFacts order vector listSize groupSize) y (ended p l q (b .0))
+          subst SplitMade y (ended p l q (b .0))
+
+  -- SPLIT: an accepted one keeps demand 2
+  pub split-facts : (found : Parts) → parts order vector listSize groupSize piecesSize ≡ accepted found → SplitFacts order vector listSize groupSize found
+  split-facts found e = record {
+    listed = M .listed;
+    kept = subst (SplitKept (l .table) (l .rows) (padded vector)) (sym (M .pieces))
+        (split-kept (F .symmetric) (l .rows) (F .stored) (padded vector) (M .long) (is-zero (taken l vector .rest) (rest-length order l F vector (M .long)) (M .zero)));
+    inLattice = rest-lattice order l F vector (M .long) .0 (M .zero);
+  }
+    where
+      M : SplitMade found
+      M = split-made found e
+
+      l : Listing
+      l = found .listing
+
+      F : ListFacts order l
+      F = listing-facts order listSize groupSize l (M .listed)
 
   -- 15 IS SAID ONLY OF A VECTOR THAT IS NOT IN THE LATTICE
   pub split-outside : parts order vector listSize groupSize piecesSize ≡ refused 15 0 → ¬ (InLattice (generatorsOf order) (padded vector))
   unfolding parts partsOf splitFault cellsFault splitSizeFault
   split-outside e h = start (unless-refused sizes (partsOf vector piecesSize (listing order listSize groupSize)) e)
     where
-      Not15 : ℕ → Type 0
-      Not15 m = ¬ (m ≡ 15)
+      Not15 : (number place : ℕ) → Type 0
+      Not15 m p = ¬ (m ≡ 15)
 
-      sizes-number : Numbered Not15 sizes
-      sizes-number = numbered-first _ (numbered-if 5 _ (λ x. omega arith)) (numbered-first _ (numbered-if 6 _ (λ x. omega arith)) (numbered-end Not15))
+      sizes-number : Said Not15 sizes
+      sizes-number = said-first _ (said-if 5 _ (λ x. omega arith)) (λ e. said-first _ (said-if 6 _ (λ x. omega arith)) (λ f. said-end Not15))
 
       met : length (padded vector) ≡ cells → (l : Listing) → listing order listSize groupSize ≡ accepted l → splitFault vector piecesSize (taken l vector) ≡ At 15 0 → ⊥
       met p l q f = last (isZero (taken l vector .rest)) refl (rest-lattice order l (listing-facts order listSize groupSize l q) vector p .1 h)
         where
           last : (b : Bool) → isZero (taken l vector .rest) ≡ b → isZero (taken l vector .rest) ≡ true → ⊥
           last false x y = clash y x
-          last true x y = other-number (splitFault vector piecesSize (taken l vector)) (numbered-first _ (numbered-where 14 _ _ (λ m. omega arith)) zero-met) f
+          last true x y = other-number (splitFault vector piecesSize (taken l vector)) (said-first _ (said-where 14 _ _ (λ p l m. omega arith)) (λ e. zero-met)) f
             where
-              zero-met : Numbered Not15 (firstFault (faultIf 15 (not (isZero (taken l vector .rest))) ∷ faultIf 16 (not (leb (length (taken l vector .pieces)) (piecesSize / pieceWidth))) ∷ []))
-              zero-met = subst (λ (z : Fault). Numbered Not15 (firstFault (z ∷ faultIf 16 (not (leb (length (taken l vector .pieces)) (piecesSize / pieceWidth))) ∷ []))) (sym (none-if 15 (ap not x)))
-                  (numbered-first _ (record { number = tt }) (numbered-first _ (numbered-if 16 _ (λ m. omega arith)) (numbered-end Not15)))
+              zero-met : Said Not15 (firstFault (faultIf 15 (not (isZero (taken l vector .rest))) ∷ faultIf 16 (not (leb (length (taken l vector .pieces)) (piecesSize / pieceWidth))) ∷ []))
+              zero-met = subst (λ (z : Fault). Said Not15 (firstFault (z ∷ faultIf 16 (not (leb (length (taken l vector .pieces)) (piecesSize / pieceWidth))) ∷ []))) (sym (none-if 15 (ap not x)))
+                  (said-first _ (said-none Not15) (λ e. said-first _ (said-if 16 _ (λ m. omega arith)) (λ f. said-end Not15)))
 
       go : length (padded vector) ≡ cells → (o : Outcome Listing) → listing order listSize groupSize ≡ o → partsOf vector piecesSize o ≡ refused 15 0 → ⊥
-      go p (refused number place) q x = let y : number ≡ 15 = cc in omega (arith, listing-number order listSize groupSize number place q)
+      go p (refused number place) q x = let y : number ≡ 15 = cc in omega (arith, list-reported order listSize groupSize number place q .low)
       go p (accepted l) q x = pick (unless-refused (splitFault vector piecesSize (taken l vector)) (accepted (record { listing = l; pieces = taken l vector .pieces })) x)
         where
           pick : (splitFault vector piecesSize (taken l vector) ≡ At 15 0) ⊎ ((splitFault vector piecesSize (taken l vector) ≡ None) × (_≡_ {A = Outcome Parts} (accepted (record { listing = l; pieces = taken l vector .pieces })) (refused 15 0))) → ⊥

@@ -31,6 +31,10 @@ pub down-times : (c : ℕ) (x : ℤ) → down (pos c *ℤ x) ≡ c * down x
 down-times c (pos a) = sym (mul-zero c)
 down-times c (negsuc a) = down-neg (pos (c * suc a))
 
+-- the absolute value of a multiple
+pub abs-times : (c : ℕ) (x : ℤ) → natAbs (pos c *ℤ x) ≡ c * natAbs x
+abs-times c x = omega (arith, size (pos c *ℤ x), up-times c x, down-times c x, ap (λ (m : ℕ). c * m) (size x), mul-add c (up x) (down x))
+
 to-fits : (c : ℕ) (x y : ℤ) → T (cellBelow (pos c *ℤ x) y) → Fits c x y
 to-fits c x y t = let h = cell-sound (pos c *ℤ x) y t in omega (arith, up-times c x, down-times c x)
 
@@ -145,7 +149,7 @@ below-weight c (x ∷ u) (y ∷ v) t =
       below-weight c u v (and-right (cellBelow (pos c *ℤ x) y) (below (scale (pos c) u) v) t),
     )
 
-no-more : (c w : ℕ) → 0 < w → c ≤ c * w
+pub no-more : (c w : ℕ) → 0 < w → c ≤ c * w
 no-more c (suc w) h = omega (arith, mul-suc c w)
 no-more c zero h = absurd (omega arith)
 

@@ -1,0 +1,222 @@
+-- What a refusal of a lent call may report (Specification 7.2): the last number, and how great its place can be. Assumes nothing.
+use mathlib.Core.Path.{_≡_, refl, sym, subst}
+use mathlib.Core.Logic.{_⊎_, inl, inr}
+use mathlib.Core.List.{List, [], _∷_}
+use Prim.Native.Nat.{ℕ, _+_, _*_, _/_, _≤_, _<_}
+use native.Mathlib.Nat.{mul-le-mul, mul-le-mul-left}
+use native.Mathlib.Omega.{arith}
+use lib.IntN.{ℤ}
+use lib.ListN.{length}
+use Rattle.definitions.specs.declared.Answer.the-variants.{Refused}
+use Rattle.definitions.specs.declared.Fault.{Fault}
+use Rattle.definitions.specs.declared.Fault.the-variants.{None, At}
+use Rattle.definitions.specs.Limits.{generatorLimit, groupLimit, listLimit}
+use Rattle.definitions.specs.Vector.{Vector, padded}
+use Rattle.definitions.specs.Group.{Exchange}
+use Rattle.definitions.specs.Completion.{Completion, completed, running, stopped, sumCount}
+use Rattle.definitions.specs.Split.{Splitting, placedOrbits, splitting}
+use Rattle.definitions.specs.Lent.{Order, exchangesOf, generatorsOf, listRows, rowsOf, tableOf, vectorsOf}
+use Rattle.definitions.specs.Refusals.{Outcome, accepted, cellsFault, checkSizeFault, firstFault, listSizeFault, orderFault, refused, rowsFault, splitFault, splitSizeFault, wholenessFault}
+use Rattle.definitions.specs.Calls.{Listing, Parts, checkCall, checkEnd, checkFault, listCall, listEnd, listing, listingOf, parts, partsOf, rulesFault, splitCall, splitEnd}
+use Rattle.theory.proofs.Lists.{chunks-length}
+use Rattle.theory.proofs.Counting.{completed-near}
+use Rattle.theory.proofs.Sums.{sums-said}
+use Rattle.theory.proofs.Completion.{table-positive}
+use Rattle.theory.proofs.Faults.{Said, accepted-refused, said-end, said-first, said-if, said-where, tests-none, unless-refused}
+use Rattle.theory.proofs.Sizes.{OrderSized, sizes-of-check, sizes-of-list, sizes-of-split}
+use Rattle.theory.proofs.Accepted.{Sized, cells-none, order-generators, order-symmetric, table-small}
+use Rattle.theory.proofs.ListCall.{completed-stops}
+use Rattle.theory.proofs.CheckCall.{generators-count, vectors-count}
+
+-- no place is past this: of all places those of sums can be greatest, and these are all sums of the greatest group and list
+abbrev pub placeLimit : ℕ
+placeLimit = groupLimit * listLimit * (listLimit + 1)
+
+-- all sums that can be tried are within it
+pub sums-few : {g k : ℕ} → g ≤ groupLimit → k ≤ listLimit → sumCount g k ≤ placeLimit
+unfolding sumCount
+sums-few {g} {k} h l = mul-le-mul (mul-le-mul h l) more
+  where
+    more : k + 1 ≤ listLimit + 1
+    more = omega arith
+
+-- a refusal that may be reported, by a call whose last number is `last`
+pub record Reported (last number place : ℕ) : Type 0 where
+  pub low : number ≤ last
+  pub near : place ≤ placeLimit
+
+-- ---- 7 to 11
+order-said : (order : Order) (groupSize last : ℕ) → 13 ≤ last → Sized (order .n) → OrderSized order → Said (Reported last) (orderFault order groupSize)
+unfolding orderFault exchangesOf rowsOf
+order-said order groupSize last h S Z =
+    said-first _ (said-where 7 _ _ (λ p l. omega (arith, Z .numbers, mul-le-mul-left generatorLimit (S .most))))
+    (λ e. said-first _ (said-where 8 _ _ (λ p l. omega (arith, Z .generators, generators-count order)))
+    (λ e. said-first _ (said-where 9 _ _ (λ p l. omega (arith, Z .exchanges, chunks-length (order .n) (length (order .exchanges) / order .n) (order .exchanges))))
+    (λ e. said-first _ (said-if 10 _ (omega arith))
+    (λ e. said-first _ (said-where 11 _ _ (λ p l. omega (arith, Z .generators, generators-count order)))
+    (λ e. said-end (Reported last))))))
+
+-- an order that meets none of 5 to 11 has a group
+table-some : (order : Order) (groupSize : ℕ) → cellsFault (order .n) ≡ None → orderFault order groupSize ≡ None → 0 < length (tableOf order groupSize)
+table-some order groupSize e f = let G = order-generators order groupSize f in table-positive (order-symmetric order groupSize e f) (G .0) (G .1)
+
+-- ---- List
+module _ (order : Order) (listSize groupSize : ℕ) where
+  abbrev table : List Exchange
+  table = tableOf order groupSize
+
+  abbrev limit : ℕ
+  limit = listRows (order .n) listSize
+
+  abbrev tests : Fault
+  tests = firstFault (cellsFault (order .n) ∷ listSizeFault order listSize groupSize ∷ orderFault order groupSize ∷ [])
+
+  -- 5 to 11
+  tests-said : Said (Reported 13) tests
+  unfolding cellsFault listSizeFault
+  tests-said =
+      said-first _ (said-if 5 _ (omega arith))
+      (λ e. said-first _ (said-if 6 _ (omega arith))
+      (λ f. said-first _ (order-said order groupSize 13 (omega arith) (cells-none (order .n) e) (sizes-of-list order listSize groupSize f))
+      (λ g. said-end (Reported 13))))
+
+  -- 12 and 13
+  stop-reported : tests ≡ None → (number place : ℕ) → completed table limit (generatorsOf order) ≡ stopped number place → Reported 13 number place
+  unfolding listRows
+  stop-reported e number place q =
+      let b = tests-none (cellsFault (order .n)) _ e in
+      let c = tests-none (listSizeFault order listSize groupSize) _ (b .1) in
+      let d = tests-none (orderFault order groupSize) _ (c .1) in
+      let used : limit ≤ listLimit = omega arith in
+      let tried = completed-near table limit (generatorsOf order) number place (table-some order groupSize (b .0) (d .0)) q in
+      record {
+        low = twelve (completed-stops table limit (generatorsOf order) number place q);
+        near = omega (arith, tried, sums-few (table-small order groupSize (d .0)) used);
+      }
+    where
+      twelve : (number ≡ 12) ⊎ (number ≡ 13) → number ≤ 13
+      twelve (inl h) = omega arith
+      twelve (inr h) = omega arith
+
+  -- LIST: what a refusal may report
+  pub list-reported : (number place : ℕ) → listing order listSize groupSize ≡ refused number place → Reported 13 number place
+  unfolding listing listingOf
+  list-reported number place e = go (unless-refused tests (listingOf table (completed table limit (generatorsOf order))) e)
+    where
+      stops : tests ≡ None → (c : Completion) → completed table limit (generatorsOf order) ≡ c → listingOf table c ≡ refused number place → Reported 13 number place
+      stops h (running s) q x = accepted-refused (sym x)
+      stops h (stopped a b) q x = let y : a ≡ number = cc in let z : b ≡ place = cc in let r = stop-reported h a b q in omega arith
+
+      go : (tests ≡ At number place) ⊎ ((tests ≡ None) × (listingOf table (completed table limit (generatorsOf order)) ≡ refused number place)) → Reported 13 number place
+      go (inl x) = subst (Said (Reported 13)) x tests-said .said
+      go (inr x) = stops (x .0) (completed table limit (generatorsOf order)) refl (x .1)
+
+-- ---- Split
+module _ (order : Order) (vector : List ℤ) (listSize groupSize piecesSize : ℕ) where
+  abbrev sizes : Fault
+  sizes = firstFault (cellsFault (order .n) ∷ splitSizeFault (order .n) vector piecesSize ∷ [])
+
+  -- 5 and 6
+  sizes-said : Said (Reported 16) sizes
+  unfolding cellsFault splitSizeFault
+  sizes-said = said-first _ (said-if 5 _ (omega arith)) (λ e. said-first _ (said-if 6 _ (omega arith)) (λ f. said-end (Reported 16)))
+
+  -- 14 to 16
+  split-said : sizes ≡ None → (taken : Splitting) → Said (Reported 16) (splitFault vector piecesSize taken)
+  unfolding splitFault
+  split-said e taken =
+      let b = tests-none (cellsFault (order .n)) _ e in
+      let c = tests-none (splitSizeFault (order .n) vector piecesSize) _ (b .1) in
+      said-first _ (said-where 14 _ _ (λ p l. omega (arith, sizes-of-split (order .n) vector piecesSize (c .0), cells-none (order .n) (b .0) .most)))
+      (λ e. said-first _ (said-if 15 _ (omega arith))
+      (λ e. said-first _ (said-if 16 _ (omega arith))
+      (λ e. said-end (Reported 16))))
+
+  -- SPLIT: what a refusal may report
+  pub split-reported : (number place : ℕ) → parts order vector listSize groupSize piecesSize ≡ refused number place → Reported 16 number place
+  unfolding parts partsOf
+  split-reported number place e = go (unless-refused sizes (partsOf vector piecesSize (listing order listSize groupSize)) e)
+    where
+      after : sizes ≡ None → (o : Outcome Listing) → listing order listSize groupSize ≡ o → partsOf vector piecesSize o ≡ refused number place → Reported 16 number place
+      after h (refused a b) q x = let y : a ≡ number = cc in let z : b ≡ place = cc in let r = list-reported order listSize groupSize a b q in omega arith
+      after h (accepted l) q x = pick (unless-refused (splitFault vector piecesSize taken) (accepted (record { listing = l; pieces = taken .pieces })) x)
+        where
+          taken : Splitting
+          taken = splitting (placedOrbits 0 (l .table) (l .rows)) (padded vector)
+
+          pick : (splitFault vector piecesSize taken ≡ At number place) ⊎ ((splitFault vector piecesSize taken ≡ None) × (_≡_ {A = Outcome Parts} (accepted (record { listing = l; pieces = taken .pieces })) (refused number place))) → Reported 16 number place
+          pick (inl f) = subst (Said (Reported 16)) f (split-said h taken) .said
+          pick (inr f) = let w = f .1 in accepted-refused (sym w)
+
+      go : (sizes ≡ At number place) ⊎ ((sizes ≡ None) × (partsOf vector piecesSize (listing order listSize groupSize) ≡ refused number place)) → Reported 16 number place
+      go (inl x) = subst (Said (Reported 16)) x sizes-said .said
+      go (inr x) = after (x .0) (listing order listSize groupSize) refl (x .1)
+
+-- ---- Check
+module _ (order : Order) (brought coefficients : List ℤ) (groupSize : ℕ) where
+  abbrev rows : List Vector
+  rows = vectorsOf (order .n) brought
+
+  -- 17 to 19
+  rows-said : (table : List Exchange) (generators : List Vector) → length rows ≤ listLimit → Said (Reported 22) (rowsFault table generators rows coefficients)
+  unfolding rowsFault
+  rows-said table generators few =
+      said-first _ (said-where 17 _ _ (λ r l. omega arith))
+      (λ e. said-first _ (said-where 18 _ _ (λ r l. omega arith))
+      (λ e. said-first _ (said-where 19 _ _ (λ r l. omega arith))
+      (λ e. said-end (Reported 22))))
+
+  -- 5 to 11 and 17 to 19
+  rules-said : Said (Reported 22) (rulesFault order brought coefficients groupSize)
+  unfolding rulesFault cellsFault checkSizeFault
+  rules-said =
+      said-first _ (said-if 5 _ (omega arith))
+      (λ e. said-first _ (said-if 6 _ (omega arith))
+      (λ f. let Z = sizes-of-check order brought coefficients groupSize f in
+      said-first _ (order-said order groupSize 22 (omega arith) (cells-none (order .n) e) (Z .sized))
+      (λ g. said-first _ (rows-said (tableOf order groupSize) (generatorsOf order) (omega (arith, Z .few, vectors-count (order .n) brought)))
+      (λ h. said-end (Reported 22)))))
+
+  -- 20 to 22
+  wholeness-said : rulesFault order brought coefficients groupSize ≡ None → Said (Reported 22) (wholenessFault (tableOf order groupSize) (generatorsOf order) rows)
+  unfolding wholenessFault rulesFault
+  wholeness-said e =
+      let a = tests-none (cellsFault (order .n)) _ e in
+      let b = tests-none (checkSizeFault order brought coefficients groupSize) _ (a .1) in
+      let c = tests-none (orderFault order groupSize) _ (b .1) in
+      let Z = sizes-of-check order brought coefficients groupSize (b .0) in
+      let few : length rows ≤ listLimit = omega (arith, Z .few, vectors-count (order .n) brought) in
+      said-first _ (said-where 20 _ _ (λ p l. omega (arith, Z .sized .generators, generators-count order)))
+      (λ e. said-first _ (sums-said (Reported 22) (tableOf order groupSize) rows (table-some order groupSize (a .0) (c .0)) (λ k l. omega (arith, sums-few (table-small order groupSize (c .0)) few)))
+      (λ e. said-first _ (said-where 22 _ _ (λ r l. omega arith))
+      (λ e. said-end (Reported 22))))
+
+  -- CHECK: what a refusal may report
+  pub check-reported : (number place : ℕ) → checkFault order brought coefficients groupSize ≡ At number place → Reported 22 number place
+  unfolding checkFault
+  check-reported number place e = subst (Said (Reported 22)) e (said-first _ rules-said (λ h. said-first _ (wholeness-said h) (λ k. said-end (Reported 22)))) .said
+
+-- ---- the answers: of each call, what it may report where its answer is a refusal
+pub list-answer-reported : (order : Order) (listSize groupSize number place : ℕ) → listCall order listSize groupSize .answer ≡ Refused number place → Reported 22 number place
+unfolding listCall listEnd
+list-answer-reported order listSize groupSize number place e = go (listing order listSize groupSize) refl e
+  where
+    go : (o : Outcome Listing) → listing order listSize groupSize ≡ o → listEnd (order .n) listSize groupSize o .answer ≡ Refused number place → Reported 22 number place
+    go (refused a b) q x = let y : a ≡ number = cc in let z : b ≡ place = cc in let r = list-reported order listSize groupSize a b q in omega arith
+    go (accepted found) q x = let z : _≡_ {A = ℕ} 0 1 = cc in absurd (omega arith)
+
+pub split-answer-reported : (order : Order) (vector : List ℤ) (listSize groupSize piecesSize number place : ℕ) → splitCall order vector listSize groupSize piecesSize .answer ≡ Refused number place → Reported 22 number place
+unfolding splitCall splitEnd
+split-answer-reported order vector listSize groupSize piecesSize number place e = go (parts order vector listSize groupSize piecesSize) refl e
+  where
+    go : (o : Outcome Parts) → parts order vector listSize groupSize piecesSize ≡ o → splitEnd (order .n) listSize groupSize piecesSize o .answer ≡ Refused number place → Reported 22 number place
+    go (refused a b) q x = let y : a ≡ number = cc in let z : b ≡ place = cc in let r = split-reported order vector listSize groupSize piecesSize a b q in omega arith
+    go (accepted found) q x = let z : _≡_ {A = ℕ} 0 1 = cc in absurd (omega arith)
+
+pub check-answer-reported : (order : Order) (rows coefficients : List ℤ) (groupSize number place : ℕ) → checkCall order rows coefficients groupSize .answer ≡ Refused number place → Reported 22 number place
+unfolding checkCall checkEnd
+check-answer-reported order rows coefficients groupSize number place e = go (checkFault order rows coefficients groupSize) refl e
+  where
+    go : (fault : Fault) → checkFault order rows coefficients groupSize ≡ fault → checkEnd groupSize (length rows / order .n) (tableOf order groupSize) fault .answer ≡ Refused number place → Reported 22 number place
+    go (At a b) q x = let y : a ≡ number = cc in let z : b ≡ place = cc in let r = check-reported order rows coefficients groupSize a b q in omega arith
+    go None q x = let z : _≡_ {A = ℕ} 0 1 = cc in absurd (omega arith)

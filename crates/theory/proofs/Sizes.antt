@@ -1,0 +1,88 @@
+-- What the tests of sizes say of what meets none (Specification 7.3). Assumes nothing.
+use mathlib.Core.Path.{_≡_}
+use mathlib.Core.Bool.{Bool, true, not, _&&_}
+use mathlib.Core.List.{List}
+use Prim.Native.Nat.{ℕ, _*_, _/_, _%_, _≤_}
+use native.Mathlib.Nat.{div-add-mod, mul-comm, mul-le-mul-left}
+use native.Mathlib.Omega.{arith}
+use borrow.Author.Tests.{eqb-true, leb-true, not-false}
+use lib.Dec.{eqb, leb}
+use lib.IntN.{ℤ}
+use lib.ListN.{length}
+use Rattle.definitions.specs.declared.Fault.the-variants.{None}
+use Rattle.definitions.specs.Limits.{generatorLimit, exchangeLimit, listLimit, pieceWidth}
+use Rattle.definitions.specs.Lent.{Order, wholeRows, wholeRowsUpTo}
+use Rattle.definitions.specs.Refusals.{checkSizeFault, listSizeFault, orderFits, splitSizeFault}
+use Rattle.theory.proofs.Tests.{and-true-left, and-true-right}
+use Rattle.theory.proofs.Faults.{if-none}
+
+-- where rows are whole and not too many, they are at most the limit
+pub rows-few : (limit width size : ℕ) → wholeRowsUpTo limit width size ≡ true → size / width ≤ limit
+unfolding wholeRowsUpTo
+rows-few limit width size e = leb-true (size / width) limit (and-true-right (wholeRows width size) (leb (size / width) limit) e)
+
+rows-whole : (limit width size : ℕ) → wholeRowsUpTo limit width size ≡ true → wholeRows width size ≡ true
+unfolding wholeRowsUpTo
+rows-whole limit width size e = and-true-left (wholeRows width size) (leb (size / width) limit) e
+
+-- and their numbers are at most those of so many rows
+rows-size : (limit width size : ℕ) → wholeRowsUpTo limit width size ≡ true → size ≤ limit * width
+unfolding wholeRows
+rows-size limit width size e =
+    let whole = eqb-true (size % width) 0 (rows-whole limit width size e) in
+    omega (arith, div-add-mod size width, mul-le-mul-left width (rows-few limit width size e), mul-comm limit width)
+
+-- the generators and the exchanges are at most their limits
+pub record OrderSized (order : Order) : Type 0 where
+  pub numbers : length (order .generators) ≤ generatorLimit * order .n
+  pub generators : length (order .generators) / order .n ≤ generatorLimit
+  pub exchanges : length (order .exchanges) / order .n ≤ exchangeLimit
+
+pub order-sized : (order : Order) → orderFits order ≡ true → OrderSized order
+unfolding orderFits
+order-sized order e =
+    let g : Bool = wholeRowsUpTo generatorLimit (order .n) (length (order .generators)) in
+    let x : Bool = wholeRowsUpTo exchangeLimit (order .n) (length (order .exchanges)) in
+    record {
+      numbers = rows-size generatorLimit (order .n) (length (order .generators)) (and-true-left g x e);
+      generators = rows-few generatorLimit (order .n) (length (order .generators)) (and-true-left g x e);
+      exchanges = rows-few exchangeLimit (order .n) (length (order .exchanges)) (and-true-right g x e);
+    }
+
+-- 6 of a List
+pub sizes-of-list : (order : Order) (listSize groupSize : ℕ) → listSizeFault order listSize groupSize ≡ None → OrderSized order
+unfolding listSizeFault
+sizes-of-list order listSize groupSize e =
+    let first : Bool = orderFits order && wholeRows (order .n) listSize in
+    let all = not-false (first && wholeRows (order .n) groupSize) (if-none 6 (not (first && wholeRows (order .n) groupSize)) e) in
+    order-sized order (and-true-left (orderFits order) (wholeRows (order .n) listSize) (and-true-left first (wholeRows (order .n) groupSize) all))
+
+-- what 6 of a Split adds
+pub sizes-of-split : (n : ℕ) (vector : List ℤ) (piecesSize : ℕ) → splitSizeFault n vector piecesSize ≡ None → length vector ≡ n
+unfolding splitSizeFault
+sizes-of-split n vector piecesSize e =
+    let both = not-false (eqb (length vector) n && wholeRows pieceWidth piecesSize) (if-none 6 _ e) in
+    eqb-true (length vector) n (and-true-left (eqb (length vector) n) (wholeRows pieceWidth piecesSize) both)
+
+-- 6 of a Check
+pub record CheckSized (order : Order) (rows coefficients : List ℤ) : Type 0 where
+  pub sized : OrderSized order
+  pub whole : wholeRows (order .n) (length rows) ≡ true
+  pub few : length rows / order .n ≤ listLimit
+  pub oneEach : length coefficients ≡ length rows / order .n * (length (order .generators) / order .n)
+
+pub sizes-of-check : (order : Order) (rows coefficients : List ℤ) (groupSize : ℕ) → checkSizeFault order rows coefficients groupSize ≡ None → CheckSized order rows coefficients
+unfolding checkSizeFault
+sizes-of-check order rows coefficients groupSize e =
+    let area : Bool = wholeRows (order .n) groupSize in
+    let brought : Bool = wholeRowsUpTo listLimit (order .n) (length rows) in
+    let needed : ℕ = length rows / order .n * (length (order .generators) / order .n) in
+    let one : Bool = eqb (length coefficients) needed in
+    let all = not-false (orderFits order && area && brought && one) (if-none 6 (not (orderFits order && area && brought && one)) e) in
+    let sizes = and-true-left (orderFits order && area && brought) one all in
+    record {
+      sized = order-sized order (and-true-left (orderFits order) area (and-true-left (orderFits order && area) brought sizes));
+      whole = rows-whole listLimit (order .n) (length rows) (and-true-right (orderFits order && area) brought sizes);
+      few = rows-few listLimit (order .n) (length rows) (and-true-right (orderFits order && area) brought sizes);
+      oneEach = eqb-true (length coefficients) needed (and-true-right (orderFits order && area && brought) one all);
+    }
