@@ -5,5 +5,6 @@ pub mod Steps
 pub mod Scans
 pub mod Sizes
 pub mod Numbers
+pub mod Parts
 pub mod Prefix
 pub mod Examples

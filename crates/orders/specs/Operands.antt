@@ -81,6 +81,10 @@ coefficientsIn order c = numbersIn (wordAt order) (coefficientPlaces c) 4
 unfoldable pub vectorIn : (order : List ℕ) → Counts → List ℤ
 vectorIn order c = numbersIn (wordAt order) (vectorPlaces c) 4
 
+-- where the operands of the command that holds number i start
+abbrev pub startOf : Places → (i : ℕ) → ℕ
+startOf p i = p .start + i / p .width * p .stride
+
 -- the place of number i of them
 abbrev pub placeOf : Places → (size i : ℕ) → ℕ
-placeOf p size i = p .start + i / p .width * p .stride + size * (i % p .width)
+placeOf p size i = startOf p i + size * (i % p .width)

@@ -1,10 +1,11 @@
-// The numbers that an accepted order lends, read into lent areas (Specification 8.3).
+// The numbers that an accepted order lends, read into lent areas (Specification 8.3). Each is decoded in the part of the
+// order that starts at its command's operands (Specification 8.1).
 ghost use mathlib.Core.Path.{_≡_};
 ghost use Prim.Native.Nat.{_+_, _*_, _≤_, _<_};
 ghost use lib.ListN.{length, getD};
 ghost use lib.Seq.{paste};
 ghost use Rattle.commands.specs.Decode.{shortAt, wordAt};
-ghost use Rattle.orders.specs.Operands.{Limited, LieWithin, headOf, pairOf, generatorPlaces, exchangePlaces, rowPlaces, coefficientPlaces, vectorPlaces, placeOf, numbersIn, generatorsIn, exchangesIn, rowsIn, coefficientsIn, vectorIn};
+ghost use Rattle.orders.specs.Operands.{Limited, LieWithin, headOf, pairOf, generatorPlaces, exchangePlaces, rowPlaces, coefficientPlaces, vectorPlaces, startOf, numbersIn, generatorsIn, exchangesIn, rowsIn, coefficientsIn, vectorIn};
 use crate::Counts;
 use commands::short_at;
 use commands::word_at;
@@ -99,15 +100,15 @@ fn vector_places(c: Counts) -> Places
     }
 }
 
-// The place of number i, `size` bytes to a number.
-fn place_of(order: &[u8], p: Places, size: usize, i: usize) -> usize
-    requires { ⌜ LieWithin (now order) p size × (i < p .count * p .width) ⌝ }
-    ensures { λ r. ⌜ r ≡ placeOf p size i ⌝ }
+// Where the operands of the command that holds number i start.
+fn start_of(order: &[u8], p: Places, i: usize) -> usize
+    requires { ⌜ (0 < p .width) × (startOf p i ≤ length (now order)) ⌝ }
+    ensures { λ r. ⌜ r ≡ startOf p i ⌝ }
 {
-    p.start + i / p.width * p.stride + size * (i % p.width)
+    p.start + i / p.width * p.stride
 }
 
-// The numbers of two bytes at their places, into an area.
+// The numbers of two bytes, into an area; their decoder takes the part that starts at the command's operands.
 fn read_shorts(order: &[u8], p: Places, area: &mut [i32])
     requires { ⌜ LieWithin (now order) p 2 × (p .count * p .width ≤ length (now area)) ⌝ }
     ensures { λ _. ⌜ now (area .exit) ≡ paste (now (area .entry)) 0 (numbersIn (shortAt (now (order .entry))) p 2) (p .count * p .width) ⌝ }
@@ -115,13 +116,14 @@ fn read_shorts(order: &[u8], p: Places, area: &mut [i32])
     let total = p.count * p.width;
     let mut i = 0;
     while i < total {
-        let at = place_of(order, p, 2, i);
-        area[i] = short_at(order, at);
+        let from = start_of(order, p, i);
+        let part = &order[from..];
+        area[i] = short_at(part, 2 * (i % p.width));
         i += 1;
     }
 }
 
-// The bytes at their places, into an area.
+// The bytes, into an area, each read in the part that starts at the command's operands.
 fn read_bytes(order: &[u8], p: Places, area: &mut [u8])
     requires { ⌜ LieWithin (now order) p 1 × (p .count * p .width ≤ length (now area)) ⌝ }
     ensures { λ _. ⌜ now (area .exit) ≡ paste (now (area .entry)) 0 (numbersIn (λ at. getD (now (order .entry)) at 0) p 1) (p .count * p .width) ⌝ }
@@ -129,13 +131,14 @@ fn read_bytes(order: &[u8], p: Places, area: &mut [u8])
     let total = p.count * p.width;
     let mut i = 0;
     while i < total {
-        let at = place_of(order, p, 1, i);
-        area[i] = order[at];
+        let from = start_of(order, p, i);
+        let part = &order[from..];
+        area[i] = part[i % p.width];
         i += 1;
     }
 }
 
-// The numbers of four bytes at their places, into an area.
+// The numbers of four bytes, into an area; their decoder takes the part that starts at the command's operands.
 fn read_words(order: &[u8], p: Places, area: &mut [i32])
     requires { ⌜ LieWithin (now order) p 4 × (p .count * p .width ≤ length (now area)) ⌝ }
     ensures { λ _. ⌜ now (area .exit) ≡ paste (now (area .entry)) 0 (numbersIn (wordAt (now (order .entry))) p 4) (p .count * p .width) ⌝ }
@@ -143,13 +146,14 @@ fn read_words(order: &[u8], p: Places, area: &mut [i32])
     let total = p.count * p.width;
     let mut i = 0;
     while i < total {
-        let at = place_of(order, p, 4, i);
-        area[i] = word_at(order, at);
+        let from = start_of(order, p, i);
+        let part = &order[from..];
+        area[i] = word_at(part, 4 * (i % p.width));
         i += 1;
     }
 }
 
-// The numbers of four bytes at their places, into an area of wide numbers.
+// The numbers of four bytes, decoded likewise, into an area of wide numbers.
 fn read_wide_words(order: &[u8], p: Places, area: &mut [i64])
     requires { ⌜ LieWithin (now order) p 4 × (p .count * p .width ≤ length (now area)) ⌝ }
     ensures { λ _. ⌜ now (area .exit) ≡ paste (now (area .entry)) 0 (numbersIn (wordAt (now (order .entry))) p 4) (p .count * p .width) ⌝ }
@@ -157,8 +161,9 @@ fn read_wide_words(order: &[u8], p: Places, area: &mut [i64])
     let total = p.count * p.width;
     let mut i = 0;
     while i < total {
-        let at = place_of(order, p, 4, i);
-        area[i] = word_at(order, at) as i64;
+        let from = start_of(order, p, i);
+        let part = &order[from..];
+        area[i] = word_at(part, 4 * (i % p.width)) as i64;
         i += 1;
     }
 }

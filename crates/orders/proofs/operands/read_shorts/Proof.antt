@@ -1,12 +1,13 @@
 -- `read_shorts` meets its contract. The invariant: the first `i` numbers are in the area. Assumes nothing.
 use mathlib.Core.Path.{ap, _∙_}
-use Prim.Native.Nat.{_-_, _*_}
+use Prim.Native.Nat.{ℕ, _+_, _-_, _*_, _%_}
 use native.Mathlib.Omega.{arith}
 use lib.IntN.{pos}
 use mir.Syntax.{w32}
 use mir.ValLaws.{toZ-ofZ}
 use Rattle.commands.specs.Decode.{shortAt}
-use Rattle.orders.proofs.Numbers.{Filling, filling-start, filling-turn, filling-end, place-room}
+use Rattle.orders.proofs.Numbers.{Filling, filling-start, filling-turn, filling-end, some-width, place-room}
+use Rattle.orders.proofs.Parts.{short-part, part-room}
 use Rattle.orders.proofs.operands.read_shorts.Statement.{statement}
 use Rattle.orders.proofs.operands.read_shorts.Tie as tie
 
@@ -22,17 +23,40 @@ mul-total c = omega (arith, c .before .before .pre .1)
 loop-holds : tie.Need-loop-holds Inv-loop μ-loop
 loop-holds c = let a = c .before .before .args in filling-start (pos 0) (shortAt (a .order .now)) (a .p) 2 (a .area .now)
 
-place-of-requires : tie.Need-place-of-requires Inv-loop μ-loop
-place-of-requires c κs = (c .before .before .before .before .pre .0, omega arith)
+start-of-requires : tie.Need-start-of-requires Inv-loop μ-loop
+start-of-requires c κs =
+    let s = c .before .before .before .before in
+    let i = c .before .loop .i in
+    (some-width (s .args .p .count) (s .args .p .width) i (omega arith), omega (arith, place-room (s .args .order .now) (s .args .p) 2 i (s .pre .0) (omega arith)))
+
+sub-part : tie.Need-sub-part Inv-loop μ-loop
+sub-part c =
+    let s = c .before .before .before .before .before in
+    let e = c .start-of .ensures in
+    omega (arith, place-room (s .args .order .now) (s .args .p) 2 (c .before .before .loop .i) (s .pre .0) (omega arith))
+
+part-part-start : tie.Need-part-part-start Inv-loop μ-loop
+part-part-start c = sub-part c
+
+part-part-end : tie.Need-part-part-end Inv-loop μ-loop
+part-part-end c = omega arith
+
+rem-short-at : tie.Need-rem-short-at Inv-loop μ-loop
+rem-short-at c = let a = c .before .before .before .before .before .before .before .args in some-width (a .p .count) (a .p .width) (c .before .before .before .before .loop .i) (omega arith)
+
+mul-short-at : tie.Need-mul-short-at Inv-loop μ-loop
+mul-short-at c =
+    let s = c .before .before .before .before .before .before .before in
+    omega (arith, place-room (s .args .order .now) (s .args .p) 2 (c .before .before .before .before .loop .i) (s .pre .0) (omega arith))
 
 short-at-requires : tie.Need-short-at-requires Inv-loop μ-loop
 short-at-requires c κs =
-    let s = c .before .before .before .before .before in
-    let e = c .place-of .ensures in
-    omega (arith, place-room (s .args .order .now) (s .args .p) 2 (c .before .before .loop .i) (s .pre .0) (omega arith))
+    let s = c .before .before .before .before .before .before .before in
+    let start = c .before .before .start-of in
+    part-room (s .args .order .now) (start .result) (s .args .p) 2 (c .before .before .before .before .loop .i) (s .pre .0) (omega arith) (start .ensures)
 
-mul-t9 : tie.Need-mul-t9 Inv-loop μ-loop
-mul-t9 c = omega arith
+mul-t14 : tie.Need-mul-t14 Inv-loop μ-loop
+mul-t14 c = omega arith
 
 slice-set-from-area : tie.Need-slice-set-from-area Inv-loop μ-loop
 slice-set-from-area c = omega arith
@@ -45,10 +69,15 @@ loop-less c = omega arith
 
 loop-again : tie.Need-loop-again Inv-loop μ-loop
 loop-again c =
-    let s = c .before .before .before .before .before .before in
-    let o = c .before .before .before .loop in
+    let s = c .before .before .before .before .before .before .before .before in
+    let o = c .before .before .before .before .before .loop in
+    let start = c .before .before .before .start-of in
+    let k = 2 * (o .i % s .args .p .width) in
     filling-turn (pos 0) (shortAt (s .args .order .now)) (s .args .p) 2 (s .args .area .now) (o .area) (o .i) (o .inv)
-    (toZ-ofZ w32 (c .short-at .result) (record { sfits = c .short-at .ok }) ∙ c .short-at .ensures ∙ ap (shortAt (s .args .order .now)) (c .before .place-of .ensures)) (omega arith) (s .pre .1)
+    (toZ-ofZ w32 (c .short-at .result) (record { sfits = c .short-at .ok })
+    ∙ c .short-at .ensures
+    ∙ short-part (s .args .order .now) (start .result) k
+    ∙ ap (λ (x : ℕ). shortAt (s .args .order .now) (x + k)) (start .ensures)) (omega arith) (s .pre .1)
 
 same-length : tie.Need-same-length Inv-loop μ-loop
 same-length c = c .before .loop .inv .same
@@ -67,9 +96,14 @@ read-shorts-spec =
     μ-loop
     mul-total
     loop-holds
-    place-of-requires
+    start-of-requires
+    sub-part
+    part-part-start
+    part-part-end
+    rem-short-at
+    mul-short-at
     short-at-requires
-    mul-t9
+    mul-t14
     slice-set-from-area
     add-i
     loop-less

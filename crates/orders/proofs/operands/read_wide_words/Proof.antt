@@ -1,13 +1,14 @@
 -- `read_wide_words` meets its contract. The invariant: the first `i` numbers are in the area. Assumes nothing.
 use mathlib.Core.Path.{ap, _∙_}
-use Prim.Native.Nat.{_-_, _*_}
+use Prim.Native.Nat.{ℕ, _+_, _-_, _*_, _%_}
 use native.Mathlib.Omega.{arith}
 use lib.IntN.{pos}
 use mir.Syntax.{w32}
 use mir.ValLaws.{toZ-ofZ}
 use Rattle.vectors.proofs.Cells.{wide-fits, wide-read}
 use Rattle.commands.specs.Decode.{wordAt}
-use Rattle.orders.proofs.Numbers.{Filling, filling-start, filling-turn, filling-end, place-room}
+use Rattle.orders.proofs.Numbers.{Filling, filling-start, filling-turn, filling-end, some-width, place-room}
+use Rattle.orders.proofs.Parts.{word-part, part-room}
 use Rattle.orders.proofs.operands.read_wide_words.Statement.{statement}
 use Rattle.orders.proofs.operands.read_wide_words.Tie as tie
 
@@ -23,20 +24,43 @@ mul-total c = omega (arith, c .before .before .pre .1)
 loop-holds : tie.Need-loop-holds Inv-loop μ-loop
 loop-holds c = let a = c .before .before .args in filling-start (pos 0) (wordAt (a .order .now)) (a .p) 4 (a .area .now)
 
-place-of-requires : tie.Need-place-of-requires Inv-loop μ-loop
-place-of-requires c κs = (c .before .before .before .before .pre .0, omega arith)
+start-of-requires : tie.Need-start-of-requires Inv-loop μ-loop
+start-of-requires c κs =
+    let s = c .before .before .before .before in
+    let i = c .before .loop .i in
+    (some-width (s .args .p .count) (s .args .p .width) i (omega arith), omega (arith, place-room (s .args .order .now) (s .args .p) 4 i (s .pre .0) (omega arith)))
+
+sub-part : tie.Need-sub-part Inv-loop μ-loop
+sub-part c =
+    let s = c .before .before .before .before .before in
+    let e = c .start-of .ensures in
+    omega (arith, place-room (s .args .order .now) (s .args .p) 4 (c .before .before .loop .i) (s .pre .0) (omega arith))
+
+part-part-start : tie.Need-part-part-start Inv-loop μ-loop
+part-part-start c = sub-part c
+
+part-part-end : tie.Need-part-part-end Inv-loop μ-loop
+part-part-end c = omega arith
+
+rem-word-at : tie.Need-rem-word-at Inv-loop μ-loop
+rem-word-at c = let a = c .before .before .before .before .before .before .before .args in some-width (a .p .count) (a .p .width) (c .before .before .before .before .loop .i) (omega arith)
+
+mul-word-at : tie.Need-mul-word-at Inv-loop μ-loop
+mul-word-at c =
+    let s = c .before .before .before .before .before .before .before in
+    omega (arith, place-room (s .args .order .now) (s .args .p) 4 (c .before .before .before .before .loop .i) (s .pre .0) (omega arith))
 
 word-at-requires : tie.Need-word-at-requires Inv-loop μ-loop
 word-at-requires c κs =
-    let s = c .before .before .before .before .before in
-    let e = c .place-of .ensures in
-    omega (arith, place-room (s .args .order .now) (s .args .p) 4 (c .before .before .loop .i) (s .pre .0) (omega arith))
+    let s = c .before .before .before .before .before .before .before in
+    let start = c .before .before .start-of in
+    part-room (s .args .order .now) (start .result) (s .args .p) 4 (c .before .before .before .before .loop .i) (s .pre .0) (omega arith) (start .ensures)
 
 cast-area : tie.Need-cast-area Inv-loop μ-loop
 cast-area c = rw (toZ-ofZ w32 (c .word-at .result) (record { sfits = c .word-at .ok })) (wide-fits (c .word-at .result) (record { sfits = c .word-at .ok }))
 
-mul-t10 : tie.Need-mul-t10 Inv-loop μ-loop
-mul-t10 c = omega arith
+mul-t15 : tie.Need-mul-t15 Inv-loop μ-loop
+mul-t15 c = omega arith
 
 slice-set-from-area : tie.Need-slice-set-from-area Inv-loop μ-loop
 slice-set-from-area c = omega arith
@@ -49,10 +73,15 @@ loop-less c = omega arith
 
 loop-again : tie.Need-loop-again Inv-loop μ-loop
 loop-again c =
-    let s = c .before .before .before .before .before .before in
-    let o = c .before .before .before .loop in
+    let s = c .before .before .before .before .before .before .before .before in
+    let o = c .before .before .before .before .before .loop in
+    let start = c .before .before .before .start-of in
+    let k = 4 * (o .i % s .args .p .width) in
     filling-turn (pos 0) (wordAt (s .args .order .now)) (s .args .p) 4 (s .args .area .now) (o .area) (o .i) (o .inv)
-    (wide-read (c .word-at .result) (record { sfits = c .word-at .ok }) ∙ c .word-at .ensures ∙ ap (wordAt (s .args .order .now)) (c .before .place-of .ensures)) (omega arith) (s .pre .1)
+    (wide-read (c .word-at .result) (record { sfits = c .word-at .ok })
+    ∙ c .word-at .ensures
+    ∙ word-part (s .args .order .now) (start .result) k
+    ∙ ap (λ (x : ℕ). wordAt (s .args .order .now) (x + k)) (start .ensures)) (omega arith) (s .pre .1)
 
 same-length : tie.Need-same-length Inv-loop μ-loop
 same-length c = c .before .loop .inv .same
@@ -71,10 +100,15 @@ read-wide-words-spec =
     μ-loop
     mul-total
     loop-holds
-    place-of-requires
+    start-of-requires
+    sub-part
+    part-part-start
+    part-part-end
+    rem-word-at
+    mul-word-at
     word-at-requires
     cast-area
-    mul-t10
+    mul-t15
     slice-set-from-area
     add-i
     loop-less
