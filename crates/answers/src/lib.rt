@@ -13,6 +13,9 @@ ghost use Rattle.answers.specs.Page.{Laid, Wrote};
 ghost use Rattle.answers.specs.Parts.{placedText};
 use definitions::Answer;
 
+// No text is longer (Specification 9.4).
+pub const TEXT_LIMIT: usize = 14_368;
+
 // Sets the whole area to zero.
 pub fn clear(area: &mut [u8])
     ensures { λ _. ⌜ now (area .exit) ≡ replicate (length (now (area .entry))) 0 ⌝ }

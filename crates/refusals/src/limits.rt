@@ -23,3 +23,6 @@ pub const COEFFICIENT_LIMIT: i64 = 1_000_000;
 
 // The numbers that a piece takes in the pieces area.
 pub const PIECE_WIDTH: usize = 4;
+
+// The pieces for which programs and C calls lend room.
+pub const LENT_PIECES: usize = 64;

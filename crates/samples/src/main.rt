@@ -6,8 +6,10 @@ ghost use mathlib.Core.Path.{_≡_};
 ghost use Prim.Native.Nat.{_≤_, _<_};
 ghost use Rattle.definitions.specs.Limits.{cells};
 ghost use Rattle.answers.specs.Answers.{lineCount};
+use answers::TEXT_LIMIT;
 use definitions::Answer;
 use refusals::limits::GROUP_LIMIT;
+use refusals::limits::LENT_PIECES;
 use refusals::limits::LIST_LIMIT;
 use refusals::limits::PIECE_WIDTH;
 use vectors::CELLS;
@@ -18,11 +20,8 @@ const LIST_AREA: usize = LIST_LIMIT * CELLS;
 // The group rows that programs lend, for the most cells.
 const GROUP_AREA: usize = GROUP_LIMIT * CELLS;
 
-// The 64 pieces that programs lend.
-const PIECES_AREA: usize = 64 * PIECE_WIDTH;
-
-// The bytes of the longest text (Specification 9.4).
-const TEXT_LIMIT: usize = 14_368;
+// The pieces that programs lend.
+const PIECES_AREA: usize = LENT_PIECES * PIECE_WIDTH;
 
 // The generators of P2 and P7.
 const GENERATORS_2: [i32; 2] = [2, 3];

@@ -82,7 +82,7 @@ pub record PieceCounts (piece : Piece) : Type 0 where
   pub position : piece .image .position < groupLimit
   pub count : piece .count ≤ splitLimit
 
-written-within : (piece : Piece) → PieceCounts piece → Within splitLimit (written piece)
+pub written-within : (piece : Piece) → PieceCounts piece → Within splitLimit (written piece)
 unfolding written sign
 written-within piece h =
     let row : piece .image .row ≤ splitLimit = omega arith in

@@ -42,6 +42,7 @@ sums-few {g} {k} h l = mul-le-mul (mul-le-mul h l) more
 
 -- a refusal that may be reported, by a call whose last number is `last`
 pub record Reported (last number place : ℕ) : Type 0 where
+  pub some : 1 ≤ number
   pub low : number ≤ last
   pub near : place ≤ placeLimit
 
@@ -89,14 +90,16 @@ module _ (order : Order) (listSize groupSize : ℕ) where
       let d = tests-none (orderFault order groupSize) _ (c .1) in
       let used : limit ≤ listLimit = omega arith in
       let tried = completed-near table limit (generatorsOf order) number place (table-some order groupSize (b .0) (d .0)) q in
+      let stops = twelve (completed-stops table limit (generatorsOf order) number place q) in
       record {
-        low = twelve (completed-stops table limit (generatorsOf order) number place q);
+        some = stops .0;
+        low = stops .1;
         near = omega (arith, tried, sums-few (table-small order groupSize (d .0)) used);
       }
     where
-      twelve : (number ≡ 12) ⊎ (number ≡ 13) → number ≤ 13
-      twelve (inl h) = omega arith
-      twelve (inr h) = omega arith
+      twelve : (number ≡ 12) ⊎ (number ≡ 13) → (1 ≤ number) × (number ≤ 13)
+      twelve (inl h) = (omega arith, omega arith)
+      twelve (inr h) = (omega arith, omega arith)
 
   -- LIST: what a refusal may report
   pub list-reported : (number place : ℕ) → listing order listSize groupSize ≡ refused number place → Reported 13 number place

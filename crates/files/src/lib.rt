@@ -1,0 +1,1 @@
+// What the services answer to order files, as definitions and theorems: no code.
