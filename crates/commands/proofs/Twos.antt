@@ -54,7 +54,8 @@ negative-less zero = refl
 negative-less (suc n) = -ℤ-one (negsuc n)
 
 module _ (n : ℕ) (h : n < 2 ^ 63) where
-  flip : pos 0 -ℤ toZ w64 n ≡ negℤ (pos n)
+  -- −n
+  pub flip : pos 0 -ℤ toZ w64 n ≡ negℤ (pos n)
   flip = ap (λ (z : ℤ). pos 0 -ℤ z) (small n h) ∙ +ℤ-idl (negℤ (pos n))
 
   -- −n fits

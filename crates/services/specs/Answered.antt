@@ -1,0 +1,48 @@
+-- What the parts of the services promise (Specification 1.2, 1.3 and 9.4). Assumes nothing.
+use mathlib.Core.Path.{_≡_}
+use mathlib.Core.List.{List}
+use Prim.Native.Nat.{ℕ, _*_, _≤_, _<_}
+use lib.IntN.{ℤ}
+use lib.ListN.{length, take}
+use Rattle.definitions.specs.declared.Answer.{Answer}
+use Rattle.definitions.specs.declared.Answer.the-variants.{Moves, Split, Passed, Refused}
+use Rattle.definitions.specs.Lent.{chunks}
+use Rattle.theory.proofs.Refused.{placeLimit}
+use Rattle.orders.specs.declared.Counts.{Counts}
+use Rattle.orders.specs.Operands.{exchangesIn, generatorsIn}
+use Rattle.answers.specs.Answers.{lineCount}
+use Rattle.files.specs.Services.{CallEnd, Served, placeFactor}
+
+-- the generators and the exchanges of a file stand at the start of two areas
+pub record OrderRead (file : List ℕ) (c : Counts) (generators : List ℤ) (exchanges : List ℕ) : Type 0 where
+  pub generatorsFit : c .generators * c .cells ≤ length generators
+  pub exchangesFit : c .exchanges * c .cells ≤ length exchanges
+  pub generatorsAre : take (c .generators * c .cells) generators ≡ generatorsIn file c
+  pub exchangesAre : take (c .exchanges * c .cells) exchanges ≡ exchangesIn file c
+
+-- the answer is the one that is due, and its lines are the first rows of `width` numbers of an area
+pub record Serves (due : Served) (answer : Answer) (width : ℕ) (area : List ℤ) : Type 0 where
+  pub answers : answer ≡ due .answer
+  pub lines : chunks width (lineCount answer) area ≡ due .lines
+  pub room : lineCount answer * width ≤ length area
+
+-- a call ended as was due: its result, and its area
+pub record Ends (due : CallEnd) (result : ℤ) (area : List ℕ) : Type 0 where
+  pub results : result ≡ due .result
+  pub areaHolds : area ≡ due .area
+
+-- a refusal whose number and place can be read from the result
+abbrev pub Small : Answer → Type 0
+Small (Refused number place) = (number < placeFactor) × (place ≤ placeLimit)
+Small (Moves rows order stored sums) = Unit {0}
+Small (Split pieces rows order stored sums) = Unit {0}
+Small (Passed rows sums) = Unit {0}
+
+-- n counts bytes at the start of xs: what a part of so many bytes asks
+abbrev pub Counted : (n : ℕ) (xs : List ℕ) → Type 0
+Counted n xs = (n ≤ length xs) × (n ≡ length (take n xs))
+
+-- the first `count` bytes of an area are a text where the area has room for it
+pub record TextIn (text : List ℕ) (count : ℕ) (area : List ℕ) : Type 0 where
+  pub counted : Counted count area
+  pub holds : length text ≤ length area → take count area ≡ text

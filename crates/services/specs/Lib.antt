@@ -1,0 +1,2 @@
+-- What the parts of the services promise.
+pub mod Answered

@@ -1,0 +1,96 @@
+/* Sukoreta: Graver bases of integer lattices up to symmetry, as calls on bytes.
+ *
+ * Each call takes an order file and an answer area. docs/SPECIFICATION.md has the three services (sections 3 to 5), the
+ * format of order files (8) and the texts of answers (9). Each pointer must be good for its length, a null pointer for
+ * the length 0, and the two slices must not overlap. Nothing else is asked: any bytes and any lengths may be sent.
+ *
+ *   #include "sukoreta.h"
+ *
+ *   uint8_t answer[SUKORETA_ANSWER_LIMIT];
+ *   int64_t r = sukoreta_list(order, order_length, answer, sizeof answer);
+ *   if (r >= 0)
+ *       fwrite(answer, 1, (size_t)r, stdout);
+ *   else
+ *       printf("refused: %d at %lld\n", SUKORETA_NUMBER(r), (long long)SUKORETA_PLACE(r));
+ *
+ * Returned is
+ *   r >= 0  the length of the text, which stands at the start of the answer area; behind it the area holds zeros.
+ *           An area of exactly that length is enough. The text is no C string: no zero byte ends it.
+ *   r < 0   -(32 * place + number) of a refusal; the whole area holds zeros. An answer that is longer than the area
+ *           is refused with 6 at 0, that is -6, after every other test.
+ *
+ * Refusals. 1 to 6 are met in the order of the file's bytes, then the others in the order of this table, for each
+ * number at the lowest place first. All counting starts at 0.
+ *
+ *   number  met when                                                               place
+ *   order file
+ *    1      a command's operands run past the end; or a command is due at the end  its offset; or the length
+ *    2      the byte where a command is due is none of 00 to 06                    its offset
+ *    3      the command may not stand there                                        its offset
+ *    4      something follows END                                                  the offset behind END
+ *   sizes
+ *    5      n is not 1 to 16                                                       0
+ *    6      a 65th GENERATOR, a 9th EXCHANGE or a 129th ROW                        its offset
+ *           the answer is longer than the answer area; tested last                 0
+ *   generators
+ *    7      an entry is past +-10,000                                              generator * n + cell
+ *    8      a generator is zero                                                    generator
+ *   exchanges
+ *    9      a sequence is no permutation of 1 to n                                 exchange
+ *   10      the group has more than 1,152 elements                                 0
+ *   11      an exchange of the generator is no generator and no negative of one    generator
+ *   completion (list, split)
+ *   12      a nonzero remainder has an entry past +-10,000                         sums tried, this one counted
+ *   13      a row is to be stored and 128 are stored                               sums tried, this one counted
+ *   split
+ *   14      an entry of the vector is past +-1,000,000                             cell
+ *   15      the vector is not in the lattice                                       0
+ *   16      there are more than 64 pieces                                          0
+ *   check
+ *   17      a row is zero, has an entry past +-10,000 or is not its greatest image row
+ *   18      a row does not come after the row before it in list order              row
+ *   19      a coefficient is past +-1,000,000, or the combination is not the row   row
+ *   20      the remainder of a generator is not zero                               generator
+ *   21      the remainder of a sum is not zero                                     sums tried, this one counted
+ *   22      an image of a different row is below the row                           row
+ */
+#ifndef SUKORETA_H
+#define SUKORETA_H
+
+#include <stddef.h>
+#include <stdint.h>
+
+#ifdef __cplusplus
+extern "C" {
+#endif
+
+/* No text is longer: an answer area of this length always has room. */
+#define SUKORETA_ANSWER_LIMIT 14368
+
+/* The answer to a longer order file is the answer to this many of its first bytes: it is refused. */
+#define SUKORETA_ORDER_LIMIT 65536
+
+/* The number and the place of a refusal, from a negative result. */
+#define SUKORETA_NUMBER(result) ((int)(-(result) % 32))
+#define SUKORETA_PLACE(result) (-(result) / 32)
+
+/* List: the Graver basis of the generators' lattice, one row for each orbit.
+ *   MOVES rows g k sums, a line for each row, END
+ */
+int64_t sukoreta_list(const uint8_t *order, size_t order_length, uint8_t *answer, size_t answer_length);
+
+/* Split: a vector as a sum of images of the list's rows.
+ *   SPLIT pieces, a line "row position sign count" for each piece, END
+ */
+int64_t sukoreta_split(const uint8_t *order, size_t order_length, uint8_t *answer, size_t answer_length);
+
+/* Check: whether a brought list is whole.
+ *   PASSED rows sums
+ */
+int64_t sukoreta_check(const uint8_t *order, size_t order_length, uint8_t *answer, size_t answer_length);
+
+#ifdef __cplusplus
+}
+#endif
+
+#endif
