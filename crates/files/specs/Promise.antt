@@ -18,7 +18,8 @@ use Rattle.orders.specs.declared.Scanned.the-variants.{Order as Accepted}
 use Rattle.orders.specs.Scan.{scanOf}
 use Rattle.orders.specs.Operands.{coefficientsIn, rowsIn, vectorIn}
 use Rattle.answers.specs.Answers.{movesText, movesWord, passedText, passedWord, splitText, splitWord}
-use Rattle.files.specs.Services.{callEnd, groupSize, orderIn, printed, refusalOf}
+use Rattle.answers.specs.Page.{pageOf}
+use Rattle.files.specs.Services.{callEnd, groupSize, orderIn, printed, printedLength, refusalOf}
 
 -- ---- what an accepted file means
 
@@ -77,6 +78,11 @@ pub record CheckCalled (file : List ℕ) (size : ℕ) (result : ℤ) (area : Lis
       → ConformalSum (c .cells) (exchangesOf (orderIn file c)) (vectorsOf (c .cells) (rowsIn file c)) v
 
 -- ---- programs
+
+-- what a program prints keeps the definition: the text with zeros behind it, and its length; zeros alone and 0 where the text is longer than the area
+pub record PrintKept (service : Service) (file : List ℕ) (size count : ℕ) (area : List ℕ) : Type 0 where
+  pub counts : count ≡ printedLength size (printed service file)
+  pub areaHolds : area ≡ pageOf size (printed service file)
 
 -- the first `count` bytes of the area are what the program prints
 pub record Prints (service : Service) (file : List ℕ) (count : ℕ) (area : List ℕ) : Type 0 where

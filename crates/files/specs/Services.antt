@@ -61,6 +61,10 @@ served service file = servedBy service file (scanOf service file)
 unfoldable pub printed : Service → (file : List ℕ) → List ℕ
 printed service file = answerText (served service file .answer) (served service file .lines)
 
+-- the bytes that it prints from an area of so many bytes: the text, or none where the text is longer
+unfoldable pub printedLength : (size : ℕ) (text : List ℕ) → ℕ
+printedLength size text = if leb (length text) size then length text else 0
+
 -- ---- C calls
 
 -- 9.4: what the place of a refusal is multiplied by; every number of a refusal is below it

@@ -18,10 +18,10 @@ use Rattle.theory.proofs.Areas.{filled-nothing}
 use Rattle.orders.specs.declared.Service.{Service}
 use Rattle.answers.specs.Answers.{answerText, lineCount}
 use Rattle.answers.specs.Lengths.{textLimit}
-use Rattle.answers.specs.Page.{Laid}
+use Rattle.answers.specs.Page.{Laid, pageOf}
 use Rattle.answers.proofs.Pages.{laid-fits, laid-long}
-use Rattle.files.specs.Services.{CallEnd, callEnd, endBy, printed, refusalOf, refusedEnd, served, textEnd}
-use Rattle.files.specs.Promise.{Prints}
+use Rattle.files.specs.Services.{CallEnd, callEnd, endBy, printed, printedLength, refusalOf, refusedEnd, served, textEnd}
+use Rattle.files.specs.Promise.{PrintKept, Prints}
 use Rattle.files.proofs.Bounds.{served-short, served-small}
 use Rattle.services.specs.Answered.{Ends, Serves, Small, TextIn}
 
@@ -65,20 +65,25 @@ module _ {n : ℕ} {area : List ℕ} {end : ℕ} {text : List ℕ} (w : Laid n a
   -- ---- programs
 
   -- a text that fits stands at the start of the area
-  pub text-laid : end ≤ n → length area ≡ n → TextIn text end area
-  unfolding filled
+  pub text-laid : end ≤ n → length area ≡ n → TextIn text n end area
+  unfolding filled printedLength
   text-laid h l =
       let f = laid-fits w h in
       let inside : end ≤ length area = omega arith in
       record {
         counted = (inside, sym (length-take-le end area inside));
+        counts = rw (le-leb (length text) n (f .0)) (f .1);
+        areaHolds = w .page;
         holds = λ room. ap (λ (k : ℕ). take k area) (f .1) ∙ ap (take (length text)) (f .2) ∙ take-append-seam text (replicate (n - length text) 0);
       }
 
   -- a text that is longer than the area
-  pub text-long : n < end → length area ≡ n → TextIn text 0 area
+  pub text-long : n < end → length area ≡ n → TextIn text n 0 area
+  unfolding printedLength
   text-long h l = record {
     counted = (omega arith, sym (length-take-le 0 area (omega arith)));
+    counts = (let f = laid-long w h in rw (lt-leb (length text) n (f .0)) refl);
+    areaHolds = w .page;
     holds = λ room. absurd (let f = laid-long w h in omega (arith, f .0));
   }
 
@@ -106,8 +111,12 @@ module _ (service : Service) (file : List ℕ) {answer : Answer} {width : ℕ} {
   unfolding callEnd
   served-ends size = ends-same (ap₂ (endBy size) (S .answers) served-text)
 
-  -- A PROGRAM that prints it, with room for any text
-  pub served-prints : {count : ℕ} {area : List ℕ} → TextIn (answerText answer (chunks width (lineCount answer) numbers)) count area → textLimit ≤ length area → Prints service file count area
+  -- A PROGRAM that prints it
+  pub served-kept : {size count : ℕ} {area : List ℕ} → TextIn (answerText answer (chunks width (lineCount answer) numbers)) size count area → PrintKept service file size count area
+  served-kept {size} T = record { counts = T .counts ∙ ap (printedLength size) served-text; areaHolds = T .areaHolds ∙ ap (pageOf size) served-text }
+
+  -- .. with room for any text
+  pub served-prints : {size count : ℕ} {area : List ℕ} → TextIn (answerText answer (chunks width (lineCount answer) numbers)) size count area → textLimit ≤ length area → Prints service file count area
   served-prints T room = record {
     within = T .counted .0;
     counted = T .counted .1;

@@ -11,7 +11,8 @@ use Rattle.theory.proofs.Refused.{placeLimit}
 use Rattle.orders.specs.declared.Counts.{Counts}
 use Rattle.orders.specs.Operands.{exchangesIn, generatorsIn}
 use Rattle.answers.specs.Answers.{lineCount}
-use Rattle.files.specs.Services.{CallEnd, Served, placeFactor}
+use Rattle.answers.specs.Page.{pageOf}
+use Rattle.files.specs.Services.{CallEnd, Served, placeFactor, printedLength}
 
 -- the generators and the exchanges of a file stand at the start of two areas
 pub record OrderRead (file : List ℕ) (c : Counts) (generators : List ℤ) (exchanges : List ℕ) : Type 0 where
@@ -42,7 +43,9 @@ Small (Passed rows sums) = Unit {0}
 abbrev pub Counted : (n : ℕ) (xs : List ℕ) → Type 0
 Counted n xs = (n ≤ length xs) × (n ≡ length (take n xs))
 
--- the first `count` bytes of an area are a text where the area has room for it
-pub record TextIn (text : List ℕ) (count : ℕ) (area : List ℕ) : Type 0 where
+-- an area of `size` bytes holds a text with zeros behind it, and `count` is the text's length; zeros alone and 0 where the text is longer
+pub record TextIn (text : List ℕ) (size count : ℕ) (area : List ℕ) : Type 0 where
   pub counted : Counted count area
+  pub counts : count ≡ printedLength size text
+  pub areaHolds : area ≡ pageOf size text
   pub holds : length text ≤ length area → take count area ≡ text

@@ -10,7 +10,7 @@ ghost use Rattle.orders.specs.Operands.{Limited, headOf};
 ghost use Rattle.answers.specs.Answers.{answerText, lineCount};
 ghost use Rattle.answers.specs.Lengths.{textLimit};
 ghost use Rattle.files.specs.Services.{endBy, piecesSize, placeFactor, refusalOf, refusedEnd, served, servedBy, textEnd};
-ghost use Rattle.files.specs.Promise.{CheckCalled, CheckPrinted, ListCalled, ListPrinted, SplitCalled, SplitPrinted};
+ghost use Rattle.files.specs.Promise.{CheckCalled, CheckPrinted, ListCalled, ListPrinted, PrintKept, SplitCalled, SplitPrinted};
 ghost use Rattle.services.specs.Answered.{Counted, Ends, OrderRead, Serves, Small, TextIn};
 use definitions::Answer;
 use orders::Counts;
@@ -303,7 +303,7 @@ fn respond(area: &mut [u8], answer: Answer, numbers: &[i32], width: usize) -> i6
 // A program's text in an area, and its length; 0 where it is longer than the area (Specification 1.3).
 fn print(area: &mut [u8], answer: Answer, numbers: &[i32], width: usize) -> usize
     requires { ⌜ lineCount answer * width ≤ length (now numbers) ⌝ }
-    ensures { λ r. ⌜ TextIn (answerText answer (chunks width (lineCount answer) (now (numbers .entry)))) r (now (area .exit)) ⌝ }
+    ensures { λ r. ⌜ TextIn (answerText answer (chunks width (lineCount answer) (now (numbers .entry)))) (length (now (area .entry))) r (now (area .exit)) ⌝ }
 {
     let room = area.len();
     let end = answers::write_answer(area, answer, numbers, width);
@@ -348,6 +348,7 @@ pub extern "C" fn sukoreta_check(order: &[u8], answer: &mut [u8]) -> i64
 // What `list_moves` prints, and its length (Specification 1.3).
 pub fn print_list(order: &[u8], answer: &mut [u8]) -> usize
     ensures { λ r. ⌜ Counted r (now (answer .exit)) ⌝ }
+    ensures { λ r. ⌜ PrintKept Service.List (now (order .entry)) (length (now (answer .entry))) r (now (answer .exit)) ⌝ }
     ensures { λ (r : ℕ). ⌜ (textLimit ≤ length (now (answer .entry)) → ListPrinted (now (order .entry)) r (now (answer .exit))) ⌝ }
 {
     let mut list = [0i32; LIST_NUMBERS];
@@ -360,6 +361,7 @@ pub fn print_list(order: &[u8], answer: &mut [u8]) -> usize
 // What `split_moves` prints, and its length (Specification 1.3).
 pub fn print_split(order: &[u8], answer: &mut [u8]) -> usize
     ensures { λ r. ⌜ Counted r (now (answer .exit)) ⌝ }
+    ensures { λ r. ⌜ PrintKept Service.Split (now (order .entry)) (length (now (answer .entry))) r (now (answer .exit)) ⌝ }
     ensures { λ (r : ℕ). ⌜ (textLimit ≤ length (now (answer .entry)) → SplitPrinted (now (order .entry)) r (now (answer .exit))) ⌝ }
 {
     let mut pieces = [0i32; PIECE_NUMBERS];
@@ -370,6 +372,7 @@ pub fn print_split(order: &[u8], answer: &mut [u8]) -> usize
 // What `check_moves` prints, and its length (Specification 1.3).
 pub fn print_check(order: &[u8], answer: &mut [u8]) -> usize
     ensures { λ r. ⌜ Counted r (now (answer .exit)) ⌝ }
+    ensures { λ r. ⌜ PrintKept Service.Check (now (order .entry)) (length (now (answer .entry))) r (now (answer .exit)) ⌝ }
     ensures { λ (r : ℕ). ⌜ (textLimit ≤ length (now (answer .entry)) → CheckPrinted (now (order .entry)) r (now (answer .exit))) ⌝ }
 {
     let none = [0i32; 1];

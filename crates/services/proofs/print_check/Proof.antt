@@ -5,7 +5,7 @@ use lib.IntN.{pos}
 use Rattle.orders.specs.declared.Service.the-variants.{Check as CheckService}
 use Rattle.files.proofs.Printing.{check-printed}
 use Rattle.services.proofs.Serving.{check-serves}
-use Rattle.services.proofs.Endings.{served-prints}
+use Rattle.services.proofs.Endings.{served-kept, served-prints}
 use borrow.Author.Needs.{needs}
 use Rattle.services.proofs.print_check.Statement.{statement}
 use Rattle.services.proofs.print_check.Tie as tie
@@ -26,7 +26,7 @@ returns : tie.Need-returns
 returns c =
     let file = c .before .before .before .before .before .before .before .before .args .order .now in
     let k = c .before .before .print in
-    (k .ensures .counted, λ room. check-printed file (served-prints CheckService file (check-serves file 0 (pos 0 ∷ []) (c .before .before .before .before .before .serve-check .ensures)) (k .ensures) (omega (arith, room, k .kept .0))))
+    (k .ensures .counted, (served-kept CheckService file (check-serves file 0 (pos 0 ∷ []) (c .before .before .before .before .before .serve-check .ensures)) (k .ensures), λ room. check-printed file (served-prints CheckService file (check-serves file 0 (pos 0 ∷ []) (c .before .before .before .before .before .serve-check .ensures)) (k .ensures) (omega (arith, room, k .kept .0)))))
 
 pub print-check-spec : {M : Type 1} → statement M
 print-check-spec =

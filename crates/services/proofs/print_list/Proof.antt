@@ -2,7 +2,7 @@
 use native.Mathlib.Omega.{arith}
 use Rattle.orders.specs.declared.Service.the-variants.{List as ListService}
 use Rattle.files.proofs.Printing.{list-printed}
-use Rattle.services.proofs.Endings.{served-prints}
+use Rattle.services.proofs.Endings.{served-kept, served-prints}
 use borrow.Author.Needs.{needs}
 use Rattle.services.proofs.print_list.Statement.{statement}
 use Rattle.services.proofs.print_list.Tie as tie
@@ -26,7 +26,7 @@ returns : tie.Need-returns
 returns c =
     let file = c .before .before .before .before .before .before .before .before .before .before .args .order .now in
     let k = c .before .before .print in
-    (k .ensures .counted, λ room. list-printed file (served-prints ListService file (c .before .before .before .before .before .before .serve-list .ensures) (k .ensures) (omega (arith, room, k .kept .0))))
+    (k .ensures .counted, (served-kept ListService file (c .before .before .before .before .before .before .serve-list .ensures) (k .ensures), λ room. list-printed file (served-prints ListService file (c .before .before .before .before .before .before .serve-list .ensures) (k .ensures) (omega (arith, room, k .kept .0)))))
 
 pub print-list-spec : {M : Type 1} → statement M
 print-list-spec =
