@@ -1,5 +1,5 @@
 -- The numbers of the commands of one kind, by their places (Specification 8.3). Assumes nothing.
-use mathlib.Core.Path.{_≡_, refl, sym, ap, _∙_}
+use mathlib.Core.Path.{_≡_, refl, sym, ap, subst, _∙_}
 use mathlib.Core.List.{List, _++_, map}
 use Prim.Native.Nat.{ℕ, zero, suc, _+_, _-_, _*_, _/_, _%_, _≤_, _<_}
 use native.Mathlib.Nat.{div-lt-iff-lt-mul, mod-lt, div-eq-of-lt, mod-eq-of-lt, div-eq-sub-div, mod-eq-sub-mod, mul-le-mul-left}
@@ -128,6 +128,11 @@ module _ {A : Type 0} (d : A) (read : ℕ → A) (p : Places) (size : ℕ) (befo
   filling-end now i f h =
       let e : i ≡ p .count * p .width = let k = f .inside in omega arith in
       f .held ∙ ap (paste before 0 (numbersIn read p size)) e
+
+-- the area that was filled by places equal to those asked for
+pub same-places : {A : Type 0} (read : ℕ → A) (size : ℕ) (before : List A) {now : List A} {p q : Places} → now ≡ paste before 0 (numbersIn read p size) (p .count * p .width) → p ≡ q
+    → now ≡ paste before 0 (numbersIn read q size) (q .count * q .width)
+same-places read size before {now} e h = subst (λ (p : Places). now ≡ paste before 0 (numbersIn read p size) (p .count * p .width)) h e
 
 -- ---- their places
 

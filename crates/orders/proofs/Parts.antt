@@ -5,9 +5,9 @@ use Prim.Native.Nat.{ℕ, zero, suc, _+_, _-_, _*_, _%_, _^_, _≤_, _<_}
 use native.Mathlib.Omega.{arith}
 use lib.ListN.{length, getD, take, drop, length-drop}
 use lib.Seq.{take-all, getD-drop}
-use Rattle.commands.specs.Decode.{signedOf, littleAt, shortAt, wordAt}
+use Rattle.commands.specs.Decode.{signedOf, littleAt}
 use Rattle.orders.specs.declared.operands.Places.{Places}
-use Rattle.orders.specs.Operands.{LieWithin, startOf}
+use Rattle.orders.specs.Operands.{LieWithin, startOf, signedAt, placeOf}
 use Rattle.orders.proofs.Numbers.{place-room}
 
 module _ (order : List ℕ) (from : ℕ) where
@@ -31,13 +31,13 @@ module _ (order : List ℕ) (from : ℕ) where
   pub byte-part : (k : ℕ) → getD partFrom k 0 ≡ getD order (from + k) 0
   byte-part k = ap (λ (l : List ℕ). getD l k 0) part-whole ∙ getD-drop from order k 0
 
-  -- a number of two bytes in the part
-  pub short-part : (k : ℕ) → shortAt partFrom k ≡ shortAt order (from + k)
-  short-part k = ap (λ (l : List ℕ). shortAt l k) part-whole ∙ ap (signedOf (2 ^ 15)) (little-behind k 2)
+  -- a signed number in the part
+  signed-part : (size k : ℕ) → signedAt size partFrom k ≡ signedAt size order (from + k)
+  signed-part size k = ap (λ (l : List ℕ). signedAt size l k) part-whole ∙ ap (signedOf (2 ^ (8 * size - 1))) (little-behind k size)
 
-  -- a number of four bytes in the part
-  pub word-part : (k : ℕ) → wordAt partFrom k ≡ wordAt order (from + k)
-  word-part k = ap (λ (l : List ℕ). wordAt l k) part-whole ∙ ap (signedOf (2 ^ 31)) (little-behind k 4)
+  -- signed number i, in the part that starts at its command's operands
+  pub signed-number : (p : Places) (size i : ℕ) → from ≡ startOf p i → signedAt size partFrom (size * (i % p .width)) ≡ signedAt size order (placeOf p size i)
+  signed-number p size i e = let k = size * (i % p .width) in signed-part size k ∙ ap (λ (x : ℕ). signedAt size order (x + k)) e
 
   -- a number that there is lies within the part that starts at its command's operands
   pub part-room : (p : Places) (size i : ℕ) → LieWithin order p size → i < p .count * p .width → from ≡ startOf p i → size * (i % p .width) + size ≤ length partFrom

@@ -1,11 +1,13 @@
 -- Specification 8.3: the numbers that an accepted order lends. Assumes nothing.
+use mathlib.Core.Path.{_≡_}
+use mathlib.Core.Logic.{_⊎_}
 use mathlib.Core.List.{List, map}
-use Prim.Native.Nat.{ℕ, _+_, _*_, _≤_, _<_, _/_, _%_}
+use Prim.Native.Nat.{ℕ, _+_, _-_, _*_, _^_, _≤_, _<_, _/_, _%_}
 use lib.IntN.{ℤ}
 use lib.ListN.{length, getD}
 use Rattle.definitions.specs.Limits.{cells, generatorLimit, exchangeLimit, listLimit}
 use Rattle.definitions.specs.Lists.{range, concat}
-use Rattle.commands.specs.Decode.{shortAt, wordAt}
+use Rattle.commands.specs.Decode.{signedOf, littleAt, shortAt, wordAt}
 use Rattle.orders.specs.declared.Service.{Service}
 use Rattle.orders.specs.declared.Service.the-variants.{List as ListService, Split, Check}
 use Rattle.orders.specs.declared.Counts.{Counts}
@@ -52,6 +54,14 @@ coefficientPlaces c = record { start = headOf c + 1 + (1 + 2 * c .cells); stride
 -- those of the vector: behind the exchanges
 abbrev pub vectorPlaces : Counts → Places
 vectorPlaces c = record { start = headOf c + 1; stride = 1 + 4 * c .cells; width = c .cells; count = 1 }
+
+-- the bytes that a signed number takes
+abbrev pub SignedSize : (size : ℕ) → Type 0
+SignedSize size = (size ≡ 2) ⊎ (size ≡ 4)
+
+-- the signed number of `size` bytes: `shortAt` where they are two, `wordAt` where they are four
+abbrev pub signedAt : (size : ℕ) (part : List ℕ) (at : ℕ) → ℤ
+signedAt size part at = signedOf (2 ^ (8 * size - 1)) (littleAt part at size)
 
 -- the operands of all commands of a kind lie within the order, `size` bytes to a number
 abbrev pub LieWithin : (order : List ℕ) → Places → (size : ℕ) → Type 0

@@ -4,8 +4,8 @@ ghost use mathlib.Core.Path.{_≡_};
 ghost use Prim.Native.Nat.{_+_, _*_, _≤_, _<_};
 ghost use lib.ListN.{length, getD};
 ghost use lib.Seq.{paste};
-ghost use Rattle.commands.specs.Decode.{shortAt, wordAt};
-ghost use Rattle.orders.specs.Operands.{Limited, LieWithin, headOf, pairOf, generatorPlaces, exchangePlaces, rowPlaces, coefficientPlaces, vectorPlaces, startOf, numbersIn, generatorsIn, exchangesIn, rowsIn, coefficientsIn, vectorIn};
+ghost use Rattle.commands.specs.Decode.{wordAt};
+ghost use Rattle.orders.specs.Operands.{Limited, LieWithin, headOf, pairOf, generatorPlaces, exchangePlaces, rowPlaces, coefficientPlaces, vectorPlaces, startOf, SignedSize, signedAt, numbersIn, generatorsIn, exchangesIn, rowsIn, coefficientsIn, vectorIn};
 use crate::Counts;
 use commands::short_at;
 use commands::word_at;
@@ -108,17 +108,28 @@ fn start_of(order: &[u8], p: Places, i: usize) -> usize
     p.start + i / p.width * p.stride
 }
 
-// The numbers of two bytes, into an area; their decoder takes the part that starts at the command's operands.
-fn read_shorts(order: &[u8], p: Places, area: &mut [i32])
-    requires { ⌜ LieWithin (now order) p 2 × (p .count * p .width ≤ length (now area)) ⌝ }
-    ensures { λ _. ⌜ now (area .exit) ≡ paste (now (area .entry)) 0 (numbersIn (shortAt (now (order .entry))) p 2) (p .count * p .width) ⌝ }
+// The signed number of two or four bytes, in a part of the order.
+fn signed_at(part: &[u8], at: usize, size: usize) -> i32
+    requires { ⌜ SignedSize size × (at + size ≤ length (now part)) ⌝ }
+    ensures { λ r. ⌜ r ≡ signedAt size (now (part .entry)) at ⌝ }
+{
+    if size == 2 {
+        return short_at(part, at);
+    }
+    word_at(part, at)
+}
+
+// The signed numbers, into an area; their decoder takes the part that starts at the command's operands.
+fn read_numbers(order: &[u8], p: Places, size: usize, area: &mut [i32])
+    requires { ⌜ SignedSize size × LieWithin (now order) p size × (p .count * p .width ≤ length (now area)) ⌝ }
+    ensures { λ _. ⌜ now (area .exit) ≡ paste (now (area .entry)) 0 (numbersIn (signedAt size (now (order .entry))) p size) (p .count * p .width) ⌝ }
 {
     let total = p.count * p.width;
     let mut i = 0;
     while i < total {
         let from = start_of(order, p, i);
         let part = &order[from..];
-        area[i] = short_at(part, 2 * (i % p.width));
+        area[i] = signed_at(part, size * (i % p.width), size);
         i += 1;
     }
 }
@@ -138,22 +149,7 @@ fn read_bytes(order: &[u8], p: Places, area: &mut [u8])
     }
 }
 
-// The numbers of four bytes, into an area; their decoder takes the part that starts at the command's operands.
-fn read_words(order: &[u8], p: Places, area: &mut [i32])
-    requires { ⌜ LieWithin (now order) p 4 × (p .count * p .width ≤ length (now area)) ⌝ }
-    ensures { λ _. ⌜ now (area .exit) ≡ paste (now (area .entry)) 0 (numbersIn (wordAt (now (order .entry))) p 4) (p .count * p .width) ⌝ }
-{
-    let total = p.count * p.width;
-    let mut i = 0;
-    while i < total {
-        let from = start_of(order, p, i);
-        let part = &order[from..];
-        area[i] = word_at(part, 4 * (i % p.width));
-        i += 1;
-    }
-}
-
-// The numbers of four bytes, decoded likewise, into an area of wide numbers.
+// The numbers of four bytes, read likewise, into an area of wide numbers.
 fn read_wide_words(order: &[u8], p: Places, area: &mut [i64])
     requires { ⌜ LieWithin (now order) p 4 × (p .count * p .width ≤ length (now area)) ⌝ }
     ensures { λ _. ⌜ now (area .exit) ≡ paste (now (area .entry)) 0 (numbersIn (wordAt (now (order .entry))) p 4) (p .count * p .width) ⌝ }
@@ -173,7 +169,7 @@ pub fn read_generators(order: &[u8], c: Counts, area: &mut [i32])
     requires { ⌜ Limited c × (headOf c ≤ length (now order)) × (c .generators * c .cells ≤ length (now area)) ⌝ }
     ensures { λ _. ⌜ now (area .exit) ≡ paste (now (area .entry)) 0 (generatorsIn (now (order .entry)) c) (c .generators * c .cells) ⌝ }
 {
-    read_shorts(order, generator_places(c), area);
+    read_numbers(order, generator_places(c), 2, area);
 }
 
 // The cells of the exchanges, into an area.
@@ -189,7 +185,7 @@ pub fn read_rows(order: &[u8], c: Counts, area: &mut [i32])
     requires { ⌜ Limited c × (headOf c + c .rows * pairOf c ≤ length (now order)) × (c .rows * c .cells ≤ length (now area)) ⌝ }
     ensures { λ _. ⌜ now (area .exit) ≡ paste (now (area .entry)) 0 (rowsIn (now (order .entry)) c) (c .rows * c .cells) ⌝ }
 {
-    read_shorts(order, row_places(c), area);
+    read_numbers(order, row_places(c), 2, area);
 }
 
 // The coefficients of the rows, into an area.
@@ -205,5 +201,5 @@ pub fn read_vector(order: &[u8], c: Counts, area: &mut [i32])
     requires { ⌜ Limited c × (headOf c + (1 + 4 * c .cells) ≤ length (now order)) × (c .cells ≤ length (now area)) ⌝ }
     ensures { λ _. ⌜ now (area .exit) ≡ paste (now (area .entry)) 0 (vectorIn (now (order .entry)) c) (c .cells) ⌝ }
 {
-    read_words(order, vector_places(c), area);
+    read_numbers(order, vector_places(c), 4, area);
 }

@@ -1,11 +1,11 @@
 -- `read_coefficients` meets its contract: the operands lie where the counts say. Assumes nothing.
-use mathlib.Core.Path.{ap, subst⁻¹, _∙_}
+use mathlib.Core.Path.{subst⁻¹}
 use Prim.Native.Nat.{_*_, _≤_}
 use lib.ListN.{length}
-use lib.Seq.{paste}
 use Rattle.commands.specs.Decode.{wordAt}
 use Rattle.orders.specs.declared.operands.Places.{Places}
-use Rattle.orders.specs.Operands.{LieWithin, numbersIn, coefficientsIn}
+use Rattle.orders.specs.Operands.{LieWithin, coefficientsIn}
+use Rattle.orders.proofs.Numbers.{same-places}
 use Rattle.orders.proofs.Sizes.{coefficients-lie}
 use borrow.Author.Needs.{needs}
 use Rattle.orders.proofs.operands.read_coefficients.Statement.{statement}
@@ -27,8 +27,7 @@ returns : tie.Need-returns
 unfolding coefficientsIn
 returns c =
     let a = c .before .before .before .before .before .args in
-    c .before .read-wide-words .ensures
-    ∙ ap (λ (p : Places). paste (a .area .now) 0 (numbersIn (wordAt (a .order .now)) p 4) (p .count * p .width)) (c .before .before .before .coefficient-places .ensures)
+    same-places (wordAt (a .order .now)) 4 (a .area .now) (c .before .read-wide-words .ensures) (c .before .before .before .coefficient-places .ensures)
 
 pub read-coefficients-spec : {M : Type 1} → statement M
 read-coefficients-spec =

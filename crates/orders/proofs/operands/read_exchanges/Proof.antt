@@ -1,10 +1,10 @@
 -- `read_exchanges` meets its contract: the operands lie where the counts say. Assumes nothing.
-use mathlib.Core.Path.{ap, subst⁻¹, _∙_}
+use mathlib.Core.Path.{subst⁻¹}
 use Prim.Native.Nat.{_*_, _≤_}
 use lib.ListN.{length, getD}
-use lib.Seq.{paste}
 use Rattle.orders.specs.declared.operands.Places.{Places}
-use Rattle.orders.specs.Operands.{LieWithin, numbersIn, exchangesIn}
+use Rattle.orders.specs.Operands.{LieWithin, exchangesIn}
+use Rattle.orders.proofs.Numbers.{same-places}
 use Rattle.orders.proofs.Sizes.{exchanges-lie}
 use borrow.Author.Needs.{needs}
 use Rattle.orders.proofs.operands.read_exchanges.Statement.{statement}
@@ -26,8 +26,7 @@ returns : tie.Need-returns
 unfolding exchangesIn
 returns c =
     let a = c .before .before .before .before .before .before .before .args in
-    c .before .before .read-bytes .ensures
-    ∙ ap (λ (p : Places). paste (a .area .now) 0 (numbersIn (λ at. getD (a .order .now) at 0) p 1) (p .count * p .width)) (c .before .before .before .before .exchange-places .ensures)
+    same-places (λ at. getD (a .order .now) at 0) 1 (a .area .now) (c .before .before .read-bytes .ensures) (c .before .before .before .before .exchange-places .ensures)
 
 pub read-exchanges-spec : {M : Type 1} → statement M
 read-exchanges-spec =

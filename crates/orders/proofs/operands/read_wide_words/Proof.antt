@@ -1,6 +1,6 @@
 -- `read_wide_words` meets its contract. The invariant: the first `i` numbers are in the area. Assumes nothing.
-use mathlib.Core.Path.{ap, _∙_}
-use Prim.Native.Nat.{ℕ, _+_, _-_, _*_, _%_}
+use mathlib.Core.Path.{_∙_}
+use Prim.Native.Nat.{_-_, _*_}
 use native.Mathlib.Omega.{arith}
 use lib.IntN.{pos}
 use mir.Syntax.{w32}
@@ -8,7 +8,7 @@ use mir.ValLaws.{toZ-ofZ}
 use Rattle.vectors.proofs.Cells.{wide-fits, wide-read}
 use Rattle.commands.specs.Decode.{wordAt}
 use Rattle.orders.proofs.Numbers.{Filling, filling-start, filling-turn, filling-end, some-width, place-room}
-use Rattle.orders.proofs.Parts.{word-part, part-room}
+use Rattle.orders.proofs.Parts.{signed-number, part-room}
 use Rattle.orders.proofs.operands.read_wide_words.Statement.{statement}
 use Rattle.orders.proofs.operands.read_wide_words.Tie as tie
 
@@ -76,12 +76,10 @@ loop-again c =
     let s = c .before .before .before .before .before .before .before .before in
     let o = c .before .before .before .before .before .loop in
     let start = c .before .before .before .start-of in
-    let k = 4 * (o .i % s .args .p .width) in
     filling-turn (pos 0) (wordAt (s .args .order .now)) (s .args .p) 4 (s .args .area .now) (o .area) (o .i) (o .inv)
     (wide-read (c .word-at .result) (record { sfits = c .word-at .ok })
     ∙ c .word-at .ensures
-    ∙ word-part (s .args .order .now) (start .result) k
-    ∙ ap (λ (x : ℕ). wordAt (s .args .order .now) (x + k)) (start .ensures)) (omega arith) (s .pre .1)
+    ∙ signed-number (s .args .order .now) (start .result) (s .args .p) 4 (o .i) (start .ensures)) (omega arith) (s .pre .1)
 
 same-length : tie.Need-same-length Inv-loop μ-loop
 same-length c = c .before .loop .inv .same
