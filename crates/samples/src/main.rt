@@ -8,6 +8,7 @@ ghost use Rattle.definitions.specs.Limits.{cells};
 ghost use Rattle.answers.specs.Answers.{lineCount};
 use answers::TEXT_LIMIT;
 use definitions::Answer;
+use refusals::limits::ENTRY_LIMIT;
 use refusals::limits::GROUP_LIMIT;
 use refusals::limits::LENT_PIECES;
 use refusals::limits::LIST_LIMIT;
@@ -180,7 +181,8 @@ fn p5() {
 
 // P6: entries at the limit, and a remainder past it.
 fn p6() {
-    let generators = [10_000i32, 1, 1, 10_000];
+    let most = ENTRY_LIMIT as i32;
+    let generators = [most, 1, 1, most];
     list(b"P6\n", 2, &generators, b"");
 }
 
