@@ -116,16 +116,20 @@ module _ (table : List Exchange) (rows : List Vector) (i : ℕ) (left : i < leng
 
 -- ---- all images taken from v, with an area that was cleared first
 pub takes-all : {images : List Image} (v : Vector) (size : ℕ) {cleared area : List ℤ} {r : Taken} → cleared ≡ filled (pos 0) size [] → Takes images (record { rest = v; count = 0 }) cleared area r → Splits images v size area r
-takes-all {images} v size {r = r} e a = record {
+takes-all {images} v size {area = area} {r = r} e a = record {
   rest = a .remains;
   count = count-is;
+  lies = whole;
   held = λ h.
       let room : length pieces * pieceWidth ≤ size = le-div-iff-mul-le (let p : 0 < pieceWidth = omega arith in p) .0 (omega (arith, count-is)) in
-      a .lies ∙ ap (λ (x : List ℤ). laid x 0 pieces) e ∙ laid-filled size [] 0 pieces (omega arith) (omega arith);
+      whole ∙ laid-filled size [] 0 pieces (omega arith) (omega arith);
 }
   where
     pieces : List Piece
     pieces = splitting images v .pieces
+
+    whole : area ≡ laid (filled (pos 0) size []) 0 pieces
+    whole = a .lies ∙ ap (λ (x : List ℤ). laid x 0 pieces) e
 
     count-is : r .count ≡ length pieces
     count-is = a .counted ∙ zero-add (length pieces)

@@ -57,8 +57,9 @@ pub record Takes (images : List Image) (t : Taken) (area area′ : List ℤ) (r 
   pub lies : area′ ≡ laid area (t .count) (splitting images (t .rest) .pieces)
   pub lower : r .rest ⊑ t .rest
 
--- 4.1: all images were taken from v; where the area has room for the pieces, it holds them with zeros behind
+-- 4.1: all images were taken from v, and the cleared area holds the pieces as far as it has room; where it has room for all, zeros stand behind
 pub record Splits (images : List Image) (v : Vector) (size : ℕ) (area : List ℤ) (r : Taken) : Type 0 where
   pub rest : r .rest ≡ splitting images v .rest
   pub count : r .count ≡ length (splitting images v .pieces)
+  pub lies : area ≡ laid (filled (pos 0) size []) 0 (splitting images v .pieces)
   pub held : r .count ≤ size / pieceWidth → area ≡ filled (pos 0) size (concat (map written (splitting images v .pieces)))
