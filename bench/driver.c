@@ -14,13 +14,11 @@
 #include <sys/wait.h>
 #include <time.h>
 
-enum { LIST_ROWS = 128, GROUP_ROWS = 1152 };
+#include "sukoreta.h"
+
+enum { LIST_ROWS = 128, GROUP_ROWS = 1152, COUNTS = 4, SUMS = 3 };
 
 extern char **environ;
-
-// A slice is passed as a pointer followed by a length.
-uint64_t bench_list(size_t n, const int32_t *generators, size_t generators_length, const uint8_t *exchanges,
-                    size_t exchanges_length, int32_t *list, size_t list_length, uint8_t *group, size_t group_length);
 
 static void fail(const char *what) {
     fprintf(stderr, "driver: %s\n", what);
@@ -63,15 +61,18 @@ static int list(size_t runs, const char *name) {
     size_t list_size = LIST_ROWS * n, group_size = GROUP_ROWS * n;
     int32_t *area = room(list_size * sizeof *area), *first_area = room(list_size * sizeof *area);
     uint8_t *group = room(group_size), *first_group = room(group_size);
-    uint64_t first_sums = 0;
+    uint64_t counts[COUNTS], first_sums = 0;
     int64_t *times = room(runs * sizeof *times);
     // the first call is not timed; each later one must answer the same, whatever the areas held before it
     for (size_t r = 0; r <= runs; r++) {
         memset(area, r % 2 ? 0x55 : 0xff, list_size * sizeof *area);
         memset(group, r % 2 ? 0x55 : 0xff, group_size);
         int64_t start = now();
-        uint64_t sums = bench_list(n, generators, m * n, exchanges, e * n, area, list_size, group, group_size);
+        int64_t result = sukoreta_lent_list(n, generators, m * n, exchanges, e * n, area, list_size, group, group_size,
+                                            counts, COUNTS);
         int64_t end = now();
+        uint64_t sums = counts[SUMS];
+        if (result < 0) fail("List refused the order");
         if (r == 0) {
             first_sums = sums;
             memcpy(first_area, area, list_size * sizeof *area);

@@ -1,8 +1,9 @@
-/* Sukoreta: Graver bases of integer lattices up to symmetry, as calls on bytes.
+/* Sukoreta: Graver bases of integer lattices up to symmetry, as calls on bytes and on lent numbers.
  *
- * Each call takes an order file and an answer area. docs/SPECIFICATION.md has the three services (sections 3 to 5), the
- * format of order files (8) and the texts of answers (9). Each pointer must be good for its length, a null pointer for
- * the length 0, and the two slices must not overlap. Nothing else is asked: any bytes and any lengths may be sent.
+ * docs/SPECIFICATION.md has the three services (sections 3 to 5), the format of order files (8) and the texts of
+ * answers (9). The first calls below take an order file and an answer area; the lent calls, which take numbers, come
+ * after them. Each pointer must be good for its length, a null pointer for the length 0, and the two slices must not
+ * overlap. Nothing else is asked: any bytes and any lengths may be sent.
  *
  *   #include "sukoreta.h"
  *
@@ -37,7 +38,7 @@
  *    8      a generator is zero                                                    generator
  *   exchanges
  *    9      a sequence is no permutation of 1 to n                                 exchange
- *   10      the group has more than 1,152 elements                                 0
+ *   10      the group has more than 1,152 members                                  0
  *   11      an exchange of the generator is no generator and no negative of one    generator
  *   completion (list, split)
  *   12      a nonzero remainder has an entry past +-10,000                         sums tried, this one counted
@@ -74,6 +75,8 @@ extern "C" {
 #define SUKORETA_NUMBER(result) ((int)(-(result) % 32))
 #define SUKORETA_PLACE(result) (-(result) / 32)
 
+/* ---- order files */
+
 /* List: the Graver basis of the generators' lattice, one row for each orbit.
  *   MOVES rows g k sums, a line for each row, END
  */
@@ -88,6 +91,60 @@ int64_t sukoreta_split(const uint8_t *order, size_t order_length, uint8_t *answe
  *   PASSED rows sums
  */
 int64_t sukoreta_check(const uint8_t *order, size_t order_length, uint8_t *answer, size_t answer_length);
+
+/* The length of the longest text, as it is proved: SUKORETA_ANSWER_LIMIT. */
+size_t sukoreta_answer_limit(void);
+
+/* ---- lent calls
+ *
+ * The same services on numbers and areas that the caller lends (specification, 1.1). A slice is a pointer and a number
+ * of elements, not of bytes; a null pointer is good for 0 elements. No slice that is written may overlap another one.
+ * Nothing else is asked: any n, any sizes and any numbers may be sent. What is only read is never changed.
+ *
+ *   n             the cells of a vector, 1 to 16
+ *   generators    n to a row, at most 64 rows
+ *   exchanges     n to a row, at most 8 rows; each row the cells 1 to n in some sequence
+ *   vector        exactly n numbers
+ *   rows          n to a row, at most 128 rows: the list brought to Check
+ *   coefficients  one for each brought row and each generator, of which there are m: number r * m + q is for row r and
+ *                 generator q
+ *   list          written: n to a row, any number of rows, of which 128 are in use
+ *   group         written: n to a row, any number of rows, of which 1,152 are in use
+ *   pieces        written: 4 to a row, any number of rows
+ *   counts        written: 4 numbers or more for List, 5 for Split, 2 for Check
+ *
+ * Returned is
+ *   r >= 0  accepted: the rows of the list, the pieces, or the brought rows. Each written area holds, from its start on
+ *             list    the rows of the list, sorted
+ *             group   the sequences of the group, ascending; a position is an index into these rows
+ *             pieces  for each piece its row in the list, its position, its sign (1 or -1) and its count
+ *             counts  List   rows, g, k, sums
+ *                     Split  pieces, rows, g, k, sums
+ *                     Check  rows, sums
+ *           and zeros behind that. g is the number of members of the group, k that of the rows stored, sums that of
+ *           the sums tried.
+ *   r < 0   -(32 * place + number) of a refusal; every written area holds zeros alone, the counts too. The refusals are
+ *           those above from 5 on, with these rows instead: 6 at 0 is met by any size that is not as said here, and by
+ *           a counts area with fewer numbers after every other test; 10 where the group has more members than rows of
+ *           its area; 13 where the list rows in use are taken, at 0 before the first sum; 16 where there are more
+ *           pieces than rows of their area.
+ *
+ * Stack: a lent call takes about 151,000 bytes, a call on an order file up to 247,000. No memory is allocated, and
+ * nothing is kept from one call to the next: calls in several threads need no lock.
+ */
+int64_t sukoreta_lent_list(size_t n, const int32_t *generators, size_t generators_length, const uint8_t *exchanges,
+                           size_t exchanges_length, int32_t *list, size_t list_length, uint8_t *group,
+                           size_t group_length, uint64_t *counts, size_t counts_length);
+
+int64_t sukoreta_lent_split(size_t n, const int32_t *generators, size_t generators_length, const uint8_t *exchanges,
+                            size_t exchanges_length, const int32_t *vector, size_t vector_length, int32_t *list,
+                            size_t list_length, uint8_t *group, size_t group_length, int32_t *pieces,
+                            size_t pieces_length, uint64_t *counts, size_t counts_length);
+
+int64_t sukoreta_lent_check(size_t n, const int32_t *generators, size_t generators_length, const uint8_t *exchanges,
+                            size_t exchanges_length, const int32_t *rows, size_t rows_length,
+                            const int64_t *coefficients, size_t coefficients_length, uint8_t *group,
+                            size_t group_length, uint64_t *counts, size_t counts_length);
 
 #ifdef __cplusplus
 }

@@ -5,17 +5,18 @@
 // then at their starts, since the sanitizers see nothing of the library's own code.
 // The last line printed is 'N passed, M failed'.
 #include <inttypes.h>
-#include <stdbool.h>
-#include <stdio.h>
-#include <stdlib.h>
 #include <string.h>
-#include <sys/mman.h>
-#include <unistd.h>
 
+#include "pages.h"
 #include "sukoreta.h"
 
+// The limits of section 6, which tests/run passes.
+#ifndef LIMIT_CELLS
+#error "the limits are those of tests/outside.py: build this by tests/run"
+#endif
+
 enum { LIST, SPLIT, CHECK, SERVICES };
-enum { ROOM = SUKORETA_ANSWER_LIMIT + 16, FILLED = 0xa5, BORDER = 64 };
+enum { ROOM = SUKORETA_ANSWER_LIMIT + 16, LONG = SUKORETA_ORDER_LIMIT + 4464, FILLED = 0xa5, BORDER = 64 };
 
 typedef int64_t call(const uint8_t *, size_t, uint8_t *, size_t);
 
@@ -38,7 +39,7 @@ static const uint8_t P2[] = {1, 1, 2, I2(2), 2, I2(3), 0};
 static const uint8_t P3[] = {1, 3, V3(2, 1, -1, 0), V3(2, 0, 1, -1), 0};
 static const uint8_t P4[] = {0x01, 0x03, 0x02, 0x01, 0x00, 0x00, 0x00, 0xff, 0xff, 0x02, 0x02, 0x00, 0xff, 0xff,
                              0x00, 0x00, 0x02, 0x00, 0x00, 0xff, 0xff, 0x02, 0x00, 0x03, 0x03, 0x02, 0x01, 0x00};
-static const uint8_t P6[] = {1, 2, 2, I2(10000), I2(1), 2, I2(1), I2(10000), 0};
+static const uint8_t P6[] = {1, 2, 2, I2(LIMIT_ENTRY), I2(1), 2, I2(1), I2(LIMIT_ENTRY), 0};
 static const uint8_t P7[] = {1, 1, 2, I2(2), 2, I2(3), 6, I4(5), 0};
 static const uint8_t P8[] = {1, 1, 2, I2(2), 6, I4(1), 0};
 static const uint8_t P9[] = {1, 2, 2, I2(1), I2(0), 3, 2, 1, 0};
@@ -51,7 +52,8 @@ static const uint8_t Q13[] = {1, 9, NINE, 3, 4, 5, 6, 1, 2, 3, 7, 8, 9, 3, 1, 2,
 static const uint8_t Q14[] = {1, 9, NINE, 0};
 static const uint8_t PASS[] = {1, 1, 2, I2(1), 4, I2(1), 5, I4(1), 0};
 
-// The 15 rows of 14 are those of samples/14.answer.
+// The 15 rows of 14 come from a search through all 3 by 3 tables with zero sums and no entry past 3 (minimal_tables in
+// tests/tables.py).
 static const char TEXT14[] =
     "MOVES 15 1 15 240\n"
     "1 0 -1 0 0 0 -1 0 1\n1 0 -1 -1 0 1 0 0 0\n1 -1 0 0 0 0 -1 1 0\n1 -1 0 -1 1 0 0 0 0\n0 1 -1 0 0 0 0 -1 1\n"
@@ -98,7 +100,7 @@ static const struct sample FILES[] = {
     {"01", ANY, FILE_OF(1), NULL, 1, 0},
     {"01 03", ANY, FILE_OF(1, 3), NULL, 1, 2},
     {"01 00", ANY, FILE_OF(1, 0), NULL, 5, 0},
-    {"01 11", ANY, FILE_OF(1, 0x11), NULL, 5, 0},
+    {"a cell too many", ANY, FILE_OF(1, LIMIT_CELLS + 1), NULL, 5, 0},
     {"07", ANY, FILE_OF(7), NULL, 2, 0},
     {"06", LIST, FILE_OF(6), NULL, 3, 0},
     {"01 01 01", ANY, FILE_OF(1, 1, 1), NULL, 3, 2},
@@ -129,27 +131,7 @@ static void tested(void) {
     faults = 0;
 }
 
-// ---- blocks between pages that may not be touched
-
-struct pages {
-    uint8_t *start;
-    size_t size;
-};
-
-static struct pages between_guards(size_t size) {
-    size_t page = (size_t)sysconf(_SC_PAGESIZE);
-    size_t inner = (size + page - 1) / page * page;
-    uint8_t *all = mmap(NULL, inner + 2 * page, PROT_NONE, MAP_PRIVATE | MAP_ANONYMOUS, -1, 0);
-    if (all == MAP_FAILED || mprotect(all + page, inner, PROT_READ | PROT_WRITE)) {
-        printf("calls: no memory\n");
-        exit(1);
-    }
-    return (struct pages){all + page, inner};
-}
-
-static uint8_t *block(struct pages pages, size_t length, bool at_end) {
-    return at_end ? pages.start + pages.size - length : pages.start;
-}
+// ---- calls between pages that may not be touched
 
 static struct pages order_pages, area_pages;
 static uint8_t zeros[ROOM], area[ROOM];
@@ -215,20 +197,20 @@ static void known(const struct sample *s, int service) {
     expect_answer(s, service, ROOM);
 }
 
-// The last lines of 8.3, and files of more than 65,536 bytes: whole generators of one cell up to the end.
+// The last lines of 8.3, and files past the order limit: whole generators of one cell up to the end.
 static void long_files(void) {
-    static uint8_t order[70000] = {1, 1};
-    size_t whole = 2 + 64 * 3;
+    static uint8_t order[LONG] = {1, 1};
+    size_t whole = 2 + LIMIT_GENERATORS * 3;
     for (size_t at = 2; at + 3 <= sizeof order; at += 3) memcpy(order + at, (const uint8_t[]){2, I2(1)}, 3);
     for (int service = 0; service < SERVICES; service++) {
-        struct sample s = {"65 generators", service, order, sizeof order, NULL, 6, (int64_t)whole};
+        struct sample s = {"a generator too many", service, order, sizeof order, NULL, 6, (int64_t)whole};
         expect_refusal(&s, service, ROOM);
         for (s.length = whole + 1; s.length <= whole + 3; s.length++) expect_refusal(&s, service, ROOM);
     }
     memcpy(order + whole, (const uint8_t[]){3, 1}, 2);
     memcpy(order + whole + 2, (const uint8_t[]){2, I2(1)}, 3);
     for (int service = 0; service < SERVICES; service++) {
-        struct sample s = {"the 65th after an exchange", service, order, whole + 5, NULL, 3, (int64_t)whole + 2};
+        struct sample s = {"it stands after an exchange", service, order, whole + 5, NULL, 3, (int64_t)whole + 2};
         expect_refusal(&s, service, ROOM);
     }
     memcpy(order + whole, (const uint8_t[]){0, 0}, 2);
@@ -246,10 +228,15 @@ static const struct {
     int most;
 } REFUSALS[] = {
     [1] = {"LSC", OFFSET}, [2] = {"LSC", OFFSET}, [3] = {"LSC", OFFSET}, [4] = {"LSC", OFFSET}, [5] = {"LSC", 0},
-    [6] = {"LSC", OFFSET}, [7] = {"LSC", 1023},   [8] = {"LSC", 63},     [9] = {"LSC", 7},      [10] = {"LSC", 0},
-    [11] = {"LSC", 63},    [12] = {"LS", SUMS},   [13] = {"LS", SUMS},   [14] = {"S", 15},      [15] = {"S", 0},
-    [16] = {"S", 0},       [17] = {"C", 127},     [18] = {"C", 127},     [19] = {"C", 127},     [20] = {"C", 63},
-    [21] = {"C", SUMS},    [22] = {"C", 127},
+    [6] = {"LSC", OFFSET},
+    [7] = {"LSC", LIMIT_GENERATORS * LIMIT_CELLS - 1},
+    [8] = {"LSC", LIMIT_GENERATORS - 1},
+    [9] = {"LSC", LIMIT_EXCHANGES - 1},
+    [10] = {"LSC", 0},
+    [11] = {"LSC", LIMIT_GENERATORS - 1},
+    [12] = {"LS", SUMS}, [13] = {"LS", SUMS}, [14] = {"S", LIMIT_CELLS - 1}, [15] = {"S", 0}, [16] = {"S", 0},
+    [17] = {"C", LIMIT_LIST - 1}, [18] = {"C", LIMIT_LIST - 1}, [19] = {"C", LIMIT_LIST - 1},
+    [20] = {"C", LIMIT_GENERATORS - 1}, [21] = {"C", SUMS}, [22] = {"C", LIMIT_LIST - 1},
 };
 
 static bool possible(int service, int64_t result, size_t length) {
@@ -378,7 +365,7 @@ static void sample(const struct sample *s) {
 }
 
 int main(void) {
-    order_pages = between_guards(70000);
+    order_pages = between_guards(LONG);
     area_pages = between_guards(ROOM + BORDER);
     for (size_t i = 0; i < sizeof SAMPLES / sizeof *SAMPLES; i++) sample(&SAMPLES[i]);
     for (size_t i = 0; i < sizeof FILES / sizeof *FILES; i++) {
@@ -390,6 +377,13 @@ int main(void) {
     }
     long_files();
     tested();
+#ifdef HAS_ANSWER_LIMIT
+    if (sukoreta_answer_limit() != SUKORETA_ANSWER_LIMIT) {
+        printf("calls: sukoreta_answer_limit() is not SUKORETA_ANSWER_LIMIT\n");
+        faults++;
+    }
+    tested();
+#endif
     printf("%ld passed, %ld failed\n", passed, failed);
     return failed != 0;
 }

@@ -60,3 +60,24 @@ def exchanges(shape):
     made += [sequence(lambda cell: tuple(cell[swapped(a, axis)] for a in range(len(shape))))
              for axis in range(len(shape) - 1) if shape[axis] == shape[axis + 1]]
     return made
+
+
+def minimal_tables():
+    """The minimal 3 by 3 tables with zero sums (2.4), each with its lexicographically greater sign, sorted (2.7).
+
+    Searched are all tables with no entry past 3. That is enough: the matrix of row and column sums is totally
+    unimodular, so no minimal one has an entry past 1. Weights ascend, so what is below a table comes before it.
+    """
+    def below(u, v):
+        return all(x * y >= 0 and abs(x) <= abs(y) for x, y in zip(u, v))
+
+    def weight(v):
+        return sum(map(abs, v))
+
+    made = ((a, b, -a - b, c, d, -c - d, -a - c, -b - d, a + b + c + d)
+            for a, b, c, d in product(range(-3, 4), repeat=4))
+    minimal = []
+    for v in sorted((v for v in made if any(v) and max(map(abs, v)) <= 3), key=weight):
+        if not any(below(u, v) for u in minimal):
+            minimal.append(v)
+    return sorted(one_of_each_sign(minimal), key=weight)

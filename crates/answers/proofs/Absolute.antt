@@ -1,4 +1,5 @@
--- Signed numbers as the code reads them: the absolute value at 64 bits, also of the least number, and the text. Assumes nothing.
+-- Signed numbers as the code reads them: the absolute value at 64 bits, also of the least number, and the text.
+-- Assumes nothing.
 use mathlib.Core.Path.{_≡_, refl, sym, _∙_, ap, subst⁻¹}
 use mathlib.Core.List.{_∷_}
 use mathlib.Core.Bool.{true, false, true≢false}
@@ -6,12 +7,13 @@ use Prim.Native.Nat.{ℕ, zero, suc, _+_, _<_, _^_}
 use native.Mathlib.Numerals.{add-one}
 use native.Mathlib.Omega.{arith}
 use borrow.Author.Tests.{le-ltb}
-use lib.Dec.{T, lit<}
+use lib.Dec.{T}
 use lib.IntN.{ℤ, pos, negsuc, negℤ, sucℤ, natAbs, _+ℤ_, _-ℤ_, +ℤ-one, +ℤ-idl, negℤ-negℤ}
 use lib.Signed.{ltZ, nonNeg}
-use mir.Syntax.{w32, w64}
+use mir.Syntax.{w64}
 use mir.Val.{SFits, toZ, ofZ}
 use mir.ValLaws.{toZ-ofZ}
+use Rattle.vectors.proofs.Negatives.{negative-fits}
 use Rattle.answers.specs.Text.{minusSign, decimal, decimalℤ}
 
 -- a number as 64 bits hold it; one more; and the negative of that
@@ -26,13 +28,6 @@ down z = pos 0 -ℤ held (up z)
 
 -- the number −(n + 1): one more is −n, and the negative of that is n
 module _ (n : ℕ) (h : n < 2 ^ 63) where
-  minus-fits : SFits w64 (negℤ (pos n))
-  minus-fits = go n h
-    where
-      go : (k : ℕ) → k < 2 ^ 63 → SFits w64 (negℤ (pos k))
-      go zero l = record { sfits = lit< tt }
-      go (suc k) l = record { sfits = omega arith }
-
   up-is : up (negsuc n) ≡ negℤ (pos n)
   up-is = ap (λ (x : ℤ). x +ℤ pos 1) (toZ-ofZ w64 (negsuc n) (record { sfits = h })) ∙ +ℤ-one (negsuc n) ∙ go n
     where
@@ -41,7 +36,7 @@ module _ (n : ℕ) (h : n < 2 ^ 63) where
       go (suc k) = refl
 
   up-held : SFits w64 (up (negsuc n))
-  up-held = subst⁻¹ (SFits w64) up-is minus-fits
+  up-held = subst⁻¹ (SFits w64) up-is (negative-fits n h)
 
   down-is : down (negsuc n) ≡ pos n
   down-is =
@@ -99,10 +94,3 @@ positive (pos n) f e =
       text = refl;
     }
 positive (negsuc n) f e = absurd (true≢false (sym (test-is (negsuc n) f) ∙ e))
-
--- a number of 32 bits, cast to 64
-pub widen-fits : (z : ℤ) → SFits w32 z → SFits w64 (toZ w32 (ofZ w32 z))
-widen-fits z f = subst⁻¹ (SFits w64) (toZ-ofZ w32 z f) (record { sfits = let h = f .sfits in omega arith })
-
-pub widen : (z : ℤ) → SFits w32 z → held (toZ w32 (ofZ w32 z)) ≡ z
-widen z f = toZ-ofZ w64 (toZ w32 (ofZ w32 z)) (widen-fits z f) ∙ toZ-ofZ w32 z f

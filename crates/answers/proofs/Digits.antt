@@ -36,4 +36,5 @@ pub decimal-more : (n : ℕ) → 10 ≤ n → decimal n ≡ decimal (n / 10) ++ 
 unfolding decimal
 decimal-more n h =
     digits-more n n h
-    ∙ ap (λ (l : List ℕ). l ++ ((digitZero + n % 10) ∷ [])) (enough n (suc (n / 10)) (n / 10) (omega arith) (omega arith))
+    ∙ ap (λ (l : List ℕ). l ++ ((digitZero + n % 10) ∷ []))
+    (enough n (suc (n / 10)) (n / 10) (omega arith) (omega arith))

@@ -1,4 +1,5 @@
--- NO TEXT IS LONGER than the limit of Specification 9.4: the longest first line, as many rows as a list can have, each with the longest
+-- NO TEXT IS LONGER than the limit of Specification 9.4: the longest first line, as many rows as a list can have,
+-- each with the longest
 -- entries, and END. Assumes nothing.
 use mathlib.Core.Path.{_≡_, refl, _∙_, ap}
 use mathlib.Core.List.{List, [], _∷_, _++_, map, List·Memᴰ, List·Memᴰ·head, List·Memᴰ·tail}
@@ -11,12 +12,14 @@ use lib.IntN.{ℤ, pos, negsuc, natAbs}
 use lib.ListN.{length, length-append}
 use Rattle.definitions.specs.declared.Answer.{Answer}
 use Rattle.definitions.specs.declared.Answer.the-variants.{Moves, Split, Passed, Refused}
-use Rattle.definitions.specs.Limits.{cells, entryLimit, groupLimit, listLimit, splitLimit, pieceWidth, lentPieces}
+use Rattle.definitions.specs.Limits.{cells, entryLimit, listLimit, splitLimit, pieceWidth, lentPieces}
 use Rattle.definitions.specs.Lists.{concat}
 use Rattle.definitions.specs.Completion.{sumCount}
-use Rattle.answers.specs.Text.{digits, decimal, decimalℤ}
-use Rattle.answers.specs.Answers.{lineFeed, countText, entryText, numbersText, lineText, linesText, headText, movesWord, splitWord, passedWord, refusedWord, endLine, tableText, movesText, splitText, passedText, refusedText, answerText}
-use Rattle.answers.specs.Lengths.{textLimit, LinesWithin, WithinLimits}
+use Rattle.answers.specs.Text.{digits, decimal, decimalℤ, digitCount}
+use Rattle.answers.specs.Answers.{lineFeed, countText, entryText, numbersText, lineText, linesText, headText}
+use Rattle.answers.specs.Answers.{movesWord, splitWord, passedWord, refusedWord, endLine, tableText, movesText}
+use Rattle.answers.specs.Answers.{splitText, passedText, refusedText, answerText}
+use Rattle.answers.specs.Lengths.{lineLimit, movesCounts, textLimit, LinesWithin, WithinLimits}
 use Rattle.answers.proofs.Pages.{either}
 use Rattle.answers.proofs.Digits.{decimal-small, decimal-more}
 
@@ -51,32 +54,37 @@ entry-short limit (negsuc n) h = omega (arith, decimal-grows (suc n) limit h)
 -- ---- lines
 
 -- texts of at most `bound` bytes each
-texts-short : {A : Type 0} (text : A → List ℕ) (bound : ℕ) (xs : List A) → ((x : A) → List·Memᴰ x xs → length (text x) ≤ bound) → length (concat (map text xs)) ≤ length xs * bound
+texts-short : {A : Type 0} (text : A → List ℕ) (bound : ℕ) (xs : List A)
+    → ((x : A) → List·Memᴰ x xs → length (text x) ≤ bound) → length (concat (map text xs)) ≤ length xs * bound
 unfolding concat
 texts-short text bound [] h = omega arith
 texts-short text bound (x ∷ xs) h =
-    omega (arith, length-append (text x) (concat (map text xs)), suc-mul (length xs) bound, h x (List·Memᴰ·head refl), texts-short text bound xs (λ y m. h y (List·Memᴰ·tail m)))
-
--- the bytes of the longest line: each number with its sign and the space or line feed behind it
-abbrev lineLimit : (width limit : ℕ) → ℕ
-lineLimit width limit = width * (2 + length (decimal limit))
+    omega
+    (arith, length-append (text x) (concat (map text xs)), suc-mul (length xs) bound, h x (List·Memᴰ·head refl), texts-short text bound xs (λ y m. h y (List·Memᴰ·tail m)))
 
 -- a line within it
-line-short : (width limit : ℕ) (line : List ℤ) → 1 ≤ width → length line ≤ width → ((z : ℤ) → List·Memᴰ z line → natAbs z ≤ limit) → length (lineText line) ≤ lineLimit width limit
+line-short : (width limit : ℕ) (line : List ℤ) → 1 ≤ width → length line ≤ width
+    → ((z : ℤ) → List·Memᴰ z line → natAbs z ≤ limit) → length (lineText line) ≤ lineLimit width limit
 unfolding lineText numbersText
-line-short width limit [] w h k = omega (arith, mul-le-mul-right {m = 1} {n = width} (2 + length (decimal limit)) w)
+line-short width limit [] w h k = omega (arith, mul-le-mul-right {m = 1} {n = width} (2 + digitCount limit) w)
 line-short width limit (z ∷ line) w h k =
-    let bound = 2 + length (decimal limit) in
+    let bound = 2 + digitCount limit in
     let rest = concat (map entryText line) in
-    let few : suc (length line) * bound ≤ width * bound = mul-le-mul-right {m = suc (length line)} {n = width} bound h in
-    let short : length rest ≤ length line * bound = texts-short entryText bound line (λ y m. let e = entry-short limit y (k y (List·Memᴰ·tail m)) in omega arith) in
-    omega (arith, length-append (decimalℤ z ++ rest) (lineFeed ∷ []), length-append (decimalℤ z) rest, suc-mul (length line) bound, entry-short limit z (k z (List·Memᴰ·head refl)))
+    let few : suc (length line) * bound ≤ width * bound =
+    mul-le-mul-right {m = suc (length line)} {n = width} bound h in
+    let short : length rest ≤ length line * bound =
+    texts-short entryText bound line (λ y m. let e = entry-short limit y (k y (List·Memᴰ·tail m)) in omega arith) in
+    omega
+    (arith, length-append (decimalℤ z ++ rest) (lineFeed ∷ []), length-append (decimalℤ z) rest, suc-mul (length line) bound, entry-short limit z (k z (List·Memᴰ·head refl)))
 
 -- at most `most` such lines
-lines-short : (width limit most : ℕ) (lines : List (List ℤ)) → 1 ≤ width → length lines ≤ most → LinesWithin width limit lines → length (linesText lines) ≤ most * lineLimit width limit
+lines-short : (width limit most : ℕ) (lines : List (List ℤ)) → 1 ≤ width → length lines ≤ most
+    → LinesWithin width limit lines → length (linesText lines) ≤ most * lineLimit width limit
 unfolding linesText
 lines-short width limit most lines w h k =
-    let short = texts-short lineText (lineLimit width limit) lines (λ line m. line-short width limit line w (k line m .0) (k line m .1)) in
+    let short =
+    texts-short lineText (lineLimit width limit) lines
+    (λ line m. line-short width limit line w (k line m .0) (k line m .1)) in
     omega (arith, mul-le-mul-right {m = length lines} {n = most} (lineLimit width limit) h)
 
 -- ---- first lines
@@ -91,13 +99,16 @@ counts-grow : {ms ns : List ℕ} → UpTo ms ns → length (concat (map countTex
 unfolding concat
 counts-grow none = omega arith
 counts-grow (and {m = m} {n = n} {ms = ms} {ns = ns} h t) =
-    omega (arith, length-append (countText m) (concat (map countText ms)), length-append (countText n) (concat (map countText ns)), decimal-grows m n h, counts-grow t)
+    omega
+    (arith, length-append (countText m) (concat (map countText ms)), length-append (countText n) (concat (map countText ns)), decimal-grows m n h, counts-grow t)
 
 -- the parts of a first line
-length-head : (word counts : List ℕ) → length (headText word counts) ≡ length word + length (concat (map countText counts)) + 1
+length-head : (word counts : List ℕ)
+    → length (headText word counts) ≡ length word + length (concat (map countText counts)) + 1
 unfolding headText
 length-head word counts =
-    length-append (word ++ concat (map countText counts)) (lineFeed ∷ []) ∙ ap (λ (k : ℕ). k + 1) (length-append word (concat (map countText counts)))
+    length-append (word ++ concat (map countText counts)) (lineFeed ∷ [])
+    ∙ ap (λ (k : ℕ). k + 1) (length-append word (concat (map countText counts)))
 
 -- so a first line is no longer than that of the greatest counts
 head-grows : (word : List ℕ) {ms ns : List ℕ} → UpTo ms ns → length (headText word ms) ≤ length (headText word ns)
@@ -105,39 +116,32 @@ head-grows word {ms} {ns} h = omega (arith, length-head word ms, length-head wor
 
 -- ---- answers
 -- the parts of a text with END
-length-table : (word counts : List ℕ) (lines : List (List ℤ)) → length (tableText word counts lines) ≡ length (headText word counts) + length (linesText lines) + length endLine
+length-table : (word counts : List ℕ) (lines : List (List ℤ))
+    → length (tableText word counts lines) ≡ length (headText word counts) + length (linesText lines) + length endLine
 unfolding tableText
 length-table word counts lines =
-    length-append (headText word counts ++ linesText lines) endLine ∙ ap (λ (k : ℕ). k + length endLine) (length-append (headText word counts) (linesText lines))
+    length-append (headText word counts ++ linesText lines) endLine
+    ∙ ap (λ (k : ℕ). k + length endLine) (length-append (headText word counts) (linesText lines))
 
--- the greatest counts of a first line, and the bytes of the longest texts
-abbrev movesCounts : List ℕ
-movesCounts = listLimit ∷ groupLimit ∷ listLimit ∷ sumCount groupLimit listLimit ∷ []
-
-abbrev movesMost : ℕ
-movesMost = length (headText movesWord movesCounts) + listLimit * lineLimit cells entryLimit + length endLine
-
+-- the bytes of the longest of the other texts
 abbrev splitMost : ℕ
-splitMost = length (headText splitWord (lentPieces ∷ [])) + lentPieces * lineLimit pieceWidth splitLimit + length endLine
+splitMost =
+    length (headText splitWord (lentPieces ∷ [])) + lentPieces * lineLimit pieceWidth splitLimit + length endLine
 
 abbrev wordMost : (word : List ℕ) → ℕ
 wordMost word = length (headText word (2 ^ 64 ∷ 2 ^ 64 ∷ []))
 
--- the limit is the length of the longest MOVES, and the others are shorter
-moves-most : movesMost ≡ textLimit
-unfolding headText concat decimal digits sumCount
-moves-most = refl
-
+-- they are no longer than the longest MOVES
 split-most : splitMost ≤ textLimit
-unfolding headText concat decimal digits
+unfolding textLimit headText concat decimal digits sumCount
 split-most = leb-true splitMost textLimit refl
 
 passed-most : wordMost passedWord ≤ textLimit
-unfolding headText concat decimal digits
+unfolding textLimit headText concat decimal digits sumCount
 passed-most = leb-true (wordMost passedWord) textLimit refl
 
 refused-most : wordMost refusedWord ≤ textLimit
-unfolding headText concat decimal digits
+unfolding textLimit headText concat decimal digits sumCount
 refused-most = leb-true (wordMost refusedWord) textLimit refl
 
 -- a single line of two counts
@@ -148,16 +152,22 @@ single-short word a b h k =
     head-grows word (and h′ (and k′ none))
 
 -- THE THEOREM, for every answer within the limits
-pub text-short : (answer : Answer) (lines : List (List ℤ)) → WithinLimits answer lines → length (answerText answer lines) ≤ textLimit
-unfolding answerText movesText splitText passedText refusedText
-text-short (Moves rows order stored sums) lines h =
-    let counts = length lines ∷ order ∷ stored ∷ sums ∷ [] in
-    let head : length (headText movesWord counts) ≤ length (headText movesWord movesCounts) = head-grows movesWord (and (h .0) (and (h .1) (and (h .2) (and (h .3) none)))) in
-    let body : length (linesText lines) ≤ listLimit * lineLimit cells entryLimit = lines-short cells entryLimit listLimit lines (omega arith) (h .0) (h .4) in
-    omega (arith, length-table movesWord counts lines, moves-most)
-text-short (Split pieces rows order stored sums) lines h =
-    let head : length (headText splitWord (length lines ∷ [])) ≤ length (headText splitWord (lentPieces ∷ [])) = head-grows splitWord (and (h .0) none) in
-    let body : length (linesText lines) ≤ lentPieces * lineLimit pieceWidth splitLimit = lines-short pieceWidth splitLimit lentPieces lines (omega arith) (h .0) (h .1) in
+pub text-short : (answer : Answer) (lines : List (List ℤ)) → WithinLimits answer lines
+    → length (answerText answer lines) ≤ textLimit
+unfolding textLimit answerText movesText splitText passedText refusedText
+text-short (Moves rows members stored sums) lines h =
+    let counts = length lines ∷ members ∷ stored ∷ sums ∷ [] in
+    let head : length (headText movesWord counts) ≤ length (headText movesWord movesCounts) =
+    head-grows movesWord (and (h .0) (and (h .1) (and (h .2) (and (h .3) none)))) in
+    let body : length (linesText lines) ≤ listLimit * lineLimit cells entryLimit =
+    lines-short cells entryLimit listLimit lines (omega arith) (h .0) (h .4) in
+    omega (arith, length-table movesWord counts lines)
+text-short (Split pieces rows members stored sums) lines h =
+    let head : length (headText splitWord (length lines ∷ [])) ≤ length (headText splitWord (lentPieces ∷ [])) =
+    head-grows splitWord (and (h .0) none) in
+    let body : length (linesText lines) ≤ lentPieces * lineLimit pieceWidth splitLimit =
+    lines-short pieceWidth splitLimit lentPieces lines (omega arith) (h .0) (h .1) in
     omega (arith, length-table splitWord (length lines ∷ []) lines, split-most)
 text-short (Passed rows sums) lines h = omega (arith, single-short passedWord rows sums (h .0) (h .1), passed-most)
-text-short (Refused number place) lines h = omega (arith, single-short refusedWord number place (h .0) (h .1), refused-most)
+text-short (Refused number place) lines h =
+    omega (arith, single-short refusedWord number place (h .0) (h .1), refused-most)

@@ -1,4 +1,5 @@
--- An area that is written piece by piece: two pieces one behind the other are one piece, and what is written from the start of an area
+-- An area that is written piece by piece: two pieces one behind the other are one piece, and what is written from the
+-- start of an area
 -- of zeros is a page (Specification 9.4). Assumes nothing.
 use mathlib.Core.Path.{_≡_, refl, sym, _∙_, ap, subst}
 use mathlib.Core.List.{List, [], _∷_, _++_, append-assoc}
@@ -22,7 +23,8 @@ either m n = go (leb m n) refl
     go false e = inr (leb-false m n e)
 
 -- ---- the definitions by cases
-pub written-yes : (a : List ℕ) (at : ℕ) (s : List ℕ) → length s ≤ length a - at → written a at s ≡ paste a at s (length s)
+pub written-yes : (a : List ℕ) (at : ℕ) (s : List ℕ) → length s ≤ length a - at
+    → written a at s ≡ paste a at s (length s)
 unfolding written
 written-yes a at s h = rw (le-leb (length s) (length a - at) h)
 
@@ -62,7 +64,8 @@ paste-past a at [] h k = sym (paste-zero a at [])
 paste-past a at (x ∷ s) h k = absurd (omega arith)
 
 -- a text that fits
-length-laid : (a : List ℕ) (at : ℕ) (s : List ℕ) → length s ≤ length a - at → length (paste a at s (length s)) ≡ length a
+length-laid : (a : List ℕ) (at : ℕ) (s : List ℕ) → length s ≤ length a - at
+    → length (paste a at s (length s)) ≡ length a
 length-laid a at s h =
     ⊎-elim (λ k. length-paste a at s (length s) (omega arith) (omega arith))
     (λ k. ap length (paste-past a at s k h))
@@ -92,7 +95,8 @@ paste-in a at s t w h =
     ap (λ (l : List ℕ). l ++ take (length t) t ++ drop (at + length s + length t) p) front
     ∙ ap (λ (l : List ℕ). take at a ++ s ++ l ++ drop (at + length s + length t) p) (take-length t)
     ∙ ap (λ (l : List ℕ). take at a ++ s ++ t ++ l) (rest ∙ ap (λ (k : ℕ). drop k a) end)
-    ∙ ap (λ (l : List ℕ). l ++ drop (at + length (s ++ t)) a) (append-assoc (take at a) s t ∙ ap (λ (l : List ℕ). take at a ++ l) (sym (take-length (s ++ t))))
+    ∙ ap (λ (l : List ℕ). l ++ drop (at + length (s ++ t)) a)
+    (append-assoc (take at a) s t ∙ ap (λ (l : List ℕ). take at a ++ l) (sym (take-length (s ++ t))))
 
 -- both fit
 paste-paste : (a : List ℕ) (at : ℕ) (s t : List ℕ) → length s + length t ≤ length a - at
@@ -130,13 +134,15 @@ written-past m (x ∷ t) =
     written-no (replicate m 0) (m + 1) (x ∷ t) (omega arith) ∙ ap (λ (k : ℕ). replicate k 0) z
 
 -- the area with both
-written-append : (a : List ℕ) (at : ℕ) (s t : List ℕ) → written (written a at s) (behind (length a) at s) t ≡ written a at (s ++ t)
+written-append : (a : List ℕ) (at : ℕ) (s t : List ℕ)
+    → written (written a at s) (behind (length a) at s) t ≡ written a at (s ++ t)
 written-append a at s t =
     let l = length-append s t in
     ⊎-elim
     (λ h.
     let e : written (written a at s) (behind (length a) at s) t ≡ written (paste a at s (length s)) (at + length s) t =
-    ap (λ (k : ℕ). written (written a at s) k t) (behind-yes (length a) at s h) ∙ ap (λ (x : List ℕ). written x (at + length s) t) (written-yes a at s h) in
+    ap (λ (k : ℕ). written (written a at s) k t) (behind-yes (length a) at s h)
+    ∙ ap (λ (x : List ℕ). written x (at + length s) t) (written-yes a at s h) in
     let p : length (paste a at s (length s)) ≡ length a = length-laid a at s h in
     e ∙ ⊎-elim
     (λ k. written-yes (paste a at s (length s)) (at + length s) t (omega arith) ∙ paste-paste a at s t k ∙ sym (written-yes a at (s ++ t) (omega arith)))
@@ -163,10 +169,19 @@ pub wrote-length : {a b : List ℕ} {at r : ℕ} {s : List ℕ} → Wrote a b at
 wrote-length {a} {b} {at} {r} {s} p = ap length (p .page) ∙ length-written a at s
 
 -- two pieces, one behind the other
-pub wrote-append : {a b c : List ℕ} {at k r : ℕ} {s t : List ℕ} → Wrote a b at k s → Wrote b c k r t → Wrote a c at r (s ++ t)
+pub wrote-append : {a b c : List ℕ} {at k r : ℕ} {s t : List ℕ} → Wrote a b at k s → Wrote b c k r t
+    → Wrote a c at r (s ++ t)
 wrote-append {a} {b} {c} {at} {k} {r} {s} {t} p q = record {
-  page = q .page ∙ ap (λ (l : List ℕ). written l k t) (p .page) ∙ ap (λ (n : ℕ). written (written a at s) n t) (p .place) ∙ written-append a at s t;
-  place = q .place ∙ ap (λ (n : ℕ). behind n k t) (wrote-length p) ∙ ap (λ (n : ℕ). behind (length a) n t) (p .place) ∙ behind-append (length a) at s t;
+  page =
+      q .page
+      ∙ ap (λ (l : List ℕ). written l k t) (p .page)
+      ∙ ap (λ (n : ℕ). written (written a at s) n t) (p .place)
+      ∙ written-append a at s t;
+  place =
+      q .place
+      ∙ ap (λ (n : ℕ). behind n k t) (wrote-length p)
+      ∙ ap (λ (n : ℕ). behind (length a) n t) (p .place)
+      ∙ behind-append (length a) at s t;
 }
 
 -- the same text, said otherwise
@@ -178,7 +193,8 @@ wrote-as {a} {b} {at} {r} p e = subst (Wrote a b at r) e p
 drop-zeros : (k n : ℕ) → drop {A = ℕ} k (replicate n 0) ≡ replicate (n - k) 0
 drop-zeros zero n = ap (λ (m : ℕ). replicate m 0) (let e : n ≡ n - 0 = omega arith in e)
 drop-zeros (suc k) zero = ap (λ (m : ℕ). replicate m 0) (let e : 0 ≡ 0 - suc k = omega arith in e)
-drop-zeros (suc k) (suc n) = drop-zeros k n ∙ ap (λ (m : ℕ). replicate m 0) (let e : n - k ≡ suc n - suc k = omega arith in e)
+drop-zeros (suc k) (suc n) =
+    drop-zeros k n ∙ ap (λ (m : ℕ). replicate m 0) (let e : n - k ≡ suc n - suc k = omega arith in e)
 
 module _ (n : ℕ) (t : List ℕ) where
   -- their number
@@ -192,7 +208,8 @@ module _ (n : ℕ) (t : List ℕ) where
       ⊎-elim
       (λ h. written-yes (replicate n 0) 0 t (let z = zeros in omega arith)
       ∙ ap (λ (l : List ℕ). l ++ drop (0 + length t) (replicate n 0)) (take-length t)
-      ∙ ap (λ (l : List ℕ). t ++ l) (drop-zeros (0 + length t) n ∙ ap (λ (m : ℕ). replicate m 0) (let q : n - (0 + length t) ≡ n - length t = omega arith in q))
+      ∙ ap (λ (l : List ℕ). t ++ l)
+      (drop-zeros (0 + length t) n ∙ ap (λ (m : ℕ). replicate m 0) (let q : n - (0 + length t) ≡ n - length t = omega arith in q))
       ∙ sym (page-yes n t h))
       (λ h. written-no (replicate n 0) 0 t (let z = zeros in omega arith) ∙ ap (λ (m : ℕ). replicate m 0) zeros ∙ sym (page-no n t h))
       (either (length t) n)
@@ -200,12 +217,14 @@ module _ (n : ℕ) (t : List ℕ) where
   -- the place is the page's end
   behind-end : behind n 0 t ≡ endOf n t
   behind-end =
-      ⊎-elim (λ h. behind-yes n 0 t (omega arith) ∙ (let q : 0 + length t ≡ length t = omega arith in q) ∙ sym (end-yes n t h))
+      ⊎-elim
+      (λ h. behind-yes n 0 t (omega arith) ∙ (let q : 0 + length t ≡ length t = omega arith in q) ∙ sym (end-yes n t h))
       (λ h. behind-no n 0 t (omega arith) ∙ sym (end-no n t h))
       (either (length t) n)
 
 -- AN AREA THAT WAS CLEARED and then written from its start holds the page of the text
-pub wrote-laid : {n : ℕ} {a b : List ℕ} {r : ℕ} {s t : List ℕ} → a ≡ replicate n 0 → s ≡ t → Wrote a b 0 r s → Laid n b r t
+pub wrote-laid : {n : ℕ} {a b : List ℕ} {r : ℕ} {s t : List ℕ} → a ≡ replicate n 0 → s ≡ t → Wrote a b 0 r s
+    → Laid n b r t
 wrote-laid {n} {a} {b} {r} {s} {t} e q w =
     let v = wrote-as w q in
     record {

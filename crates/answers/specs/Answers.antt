@@ -6,6 +6,7 @@ use lib.ListN.{length}
 use Rattle.definitions.specs.declared.Answer.{Answer}
 use Rattle.definitions.specs.declared.Answer.the-variants.{Moves, Split, Passed, Refused}
 use Rattle.definitions.specs.Lists.{concat}
+use Rattle.definitions.specs.Lent.{chunks}
 use Rattle.answers.specs.Text.{decimal, decimalℤ}
 
 -- ---- lines
@@ -64,7 +65,7 @@ endLine = 69 ∷ 78 ∷ 68 ∷ lineFeed ∷ []
 unfoldable pub tableText : (word counts : List ℕ) (lines : List (List ℤ)) → List ℕ
 tableText word counts lines = headText word counts ++ linesText lines ++ endLine
 
--- 9.1: the rows of a list, with the order of the group, the rows stored and the sums tried
+-- 9.1: the rows of a list, with the members of the group, the rows stored and the sums tried
 unfoldable pub movesText : (g k sums : ℕ) (rows : List (List ℤ)) → List ℕ
 movesText g k sums rows = tableText movesWord (length rows ∷ g ∷ k ∷ sums ∷ []) rows
 
@@ -81,14 +82,18 @@ refusedText number place = headText refusedWord (number ∷ place ∷ [])
 
 -- the lines of numbers that the text of an answer has
 abbrev pub lineCount : Answer → ℕ
-lineCount (Moves rows order stored sums) = rows
-lineCount (Split pieces rows order stored sums) = pieces
+lineCount (Moves rows members stored sums) = rows
+lineCount (Split pieces rows members stored sums) = pieces
 lineCount (Passed rows sums) = 0
 lineCount (Refused number place) = 0
 
 -- THE TEXT OF AN ANSWER whose lines of numbers are these
 unfoldable pub answerText : Answer → (lines : List (List ℤ)) → List ℕ
-answerText (Moves rows order stored sums) lines = movesText order stored sums lines
-answerText (Split pieces rows order stored sums) lines = splitText lines
+answerText (Moves rows members stored sums) lines = movesText members stored sums lines
+answerText (Split pieces rows members stored sums) lines = splitText lines
 answerText (Passed rows sums) lines = passedText rows sums
 answerText (Refused number place) lines = refusedText number place
+
+-- .. whose lines are the first rows of `width` numbers
+abbrev pub rowsText : Answer → (width : ℕ) (numbers : List ℤ) → List ℕ
+rowsText answer width numbers = answerText answer (chunks width (lineCount answer) numbers)

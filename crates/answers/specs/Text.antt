@@ -3,6 +3,7 @@ use mathlib.Core.List.{List, [], _∷_, _++_}
 use Prim.Native.Nat.{ℕ, zero, suc, _+_, _/_, _%_}
 use lib.Dec.{ltb}
 use lib.IntN.{ℤ, pos, negsuc}
+use lib.ListN.{length}
 use Rattle.definitions.specs.Lists.{if_then_else_}
 
 -- the bytes of the digit 0 and of the minus sign
@@ -22,6 +23,10 @@ digits (suc fuel) n =
 -- a number without leading zeros: it has no more digits than n, or one
 unfoldable pub decimal : ℕ → List ℕ
 decimal n = digits (suc n) n
+
+-- how many digits it has
+abbrev pub digitCount : ℕ → ℕ
+digitCount n = length (decimal n)
 
 -- with a sign before a negative number
 abbrev pub decimalℤ : ℤ → List ℕ

@@ -1,36 +1,33 @@
-// Answers as text, laid into a lent area (Specification 9). A place past the area's end says that the text is too long; the area is
-// then zero, and stays so.
+// Answers as text, laid into a lent area, and refusals as results (Specification 9). A place past the area's end says
+// that the text is too long; the area is then zero, and stays so.
 ghost use mathlib.Core.Path.{_≡_};
 ghost use mathlib.Core.List.{[], _∷_};
-ghost use Prim.Native.Nat.{_-_, _*_, _≤_, _<_};
+ghost use Prim.Native.Nat.{_-_, _*_, _≤_, _<_, _^_};
 ghost use lib.IntN.{natAbs};
-ghost use lib.ListN.{length, replicate};
+ghost use lib.ListN.{length};
 ghost use lib.Seq.{paste};
 ghost use Rattle.definitions.specs.Lent.{chunks};
 ghost use Rattle.answers.specs.Text.{decimal, decimalℤ};
-ghost use Rattle.answers.specs.Answers.{countText, lineText, linesText, headText, tableText, lineCount, answerText};
+ghost use Rattle.answers.specs.Answers.{countText, lineText, linesText, headText, tableText, lineCount, rowsText};
 ghost use Rattle.answers.specs.Page.{Laid, Wrote};
 ghost use Rattle.answers.specs.Parts.{placedText};
+ghost use Rattle.answers.specs.Refusal.{refusalCode, refusalOf};
 use definitions::Answer;
+use vectors::clear_bytes;
 
-// No text is longer (Specification 9.4).
-pub const TEXT_LIMIT: usize = 14_368;
+// How long a text can be.
+pub mod lengths;
 
-// Sets the whole area to zero.
-pub fn clear(area: &mut [u8])
-    ensures { λ _. ⌜ now (area .exit) ≡ replicate (length (now (area .entry))) 0 ⌝ }
-{
-    let mut i = 0;
-    while i < area.len() {
-        area[i] = 0;
-        i += 1;
-    }
-}
+// What the place of a refusal is multiplied by (Specification 9.4).
+const PLACE_FACTOR: u64 = 32;
 
 // Copies a text to a place where there is room for it.
 fn copy_at(area: &mut [u8], at: usize, text: &[u8])
-    requires { ⌜ length (now text) ≤ length (now area) - at ⌝ }
-    ensures { λ _. ⌜ now (area .exit) ≡ paste (now (area .entry)) at (now (text .entry)) (length (now (text .entry))) ⌝ }
+    requires fits { ⌜ length (now text) ≤ length (now area) - at ⌝ }
+    ensures copied { λ _. ⌜
+        (let s = now (text .entry) in
+        now (area .exit) ≡ paste (now (area .entry)) at s (length s))
+        ⌝ }
 {
     let mut i = 0;
     while i < text.len() {
@@ -41,7 +38,7 @@ fn copy_at(area: &mut [u8], at: usize, text: &[u8])
 
 // The bytes that an area of n has from a place on.
 fn room(n: usize, at: usize) -> usize
-    ensures { λ r. ⌜ r ≡ n - at ⌝ }
+    ensures left { λ r. ⌜ r ≡ n - at ⌝ }
 {
     if n <= at {
         return 0;
@@ -51,12 +48,12 @@ fn room(n: usize, at: usize) -> usize
 
 // Writes a text at a place, and answers the place behind it.
 pub fn put_text(area: &mut [u8], at: usize, text: &[u8]) -> usize
-    ensures { λ r. ⌜ Wrote (now (area .entry)) (now (area .exit)) at r (now (text .entry)) ⌝ }
+    ensures wrote { λ r. ⌜ Wrote (now (area .entry)) (now (area .exit)) at r (now (text .entry)) ⌝ }
 {
     let n = area.len();
     let m = text.len();
     if room(n, at) < m {
-        clear(area);
+        clear_bytes(area, 0);
         return n + 1;
     }
     copy_at(area, at, text);
@@ -65,7 +62,7 @@ pub fn put_text(area: &mut [u8], at: usize, text: &[u8]) -> usize
 
 // Writes one byte.
 pub fn put_byte(area: &mut [u8], at: usize, b: u8) -> usize
-    ensures { λ r. ⌜ Wrote (now (area .entry)) (now (area .exit)) at r (b ∷ []) ⌝ }
+    ensures wrote { λ r. ⌜ Wrote (now (area .entry)) (now (area .exit)) at r (b ∷ []) ⌝ }
 {
     let text = [b];
     put_text(area, at, &text)
@@ -73,7 +70,7 @@ pub fn put_byte(area: &mut [u8], at: usize, b: u8) -> usize
 
 // Writes a number in decimal: the digits of its tenth part, and the last one.
 pub fn put_natural(area: &mut [u8], at: usize, x: u64) -> usize
-    ensures { λ r. ⌜ Wrote (now (area .entry)) (now (area .exit)) at r (decimal x) ⌝ }
+    ensures wrote { λ r. ⌜ Wrote (now (area .entry)) (now (area .exit)) at r (decimal x) ⌝ }
 {
     let last = b'0' + (x % 10) as u8;
     if x < 10 {
@@ -85,7 +82,7 @@ pub fn put_natural(area: &mut [u8], at: usize, x: u64) -> usize
 
 // The absolute value, also of the least number.
 fn magnitude(z: i64) -> u64
-    ensures { λ r. ⌜ r ≡ natAbs z ⌝ }
+    ensures absolute { λ r. ⌜ r ≡ natAbs z ⌝ }
 {
     if z < 0 {
         return (-(z + 1)) as u64 + 1;
@@ -95,7 +92,7 @@ fn magnitude(z: i64) -> u64
 
 // Writes a signed number in decimal.
 pub fn put_integer(area: &mut [u8], at: usize, z: i64) -> usize
-    ensures { λ r. ⌜ Wrote (now (area .entry)) (now (area .exit)) at r (decimalℤ z) ⌝ }
+    ensures wrote { λ r. ⌜ Wrote (now (area .entry)) (now (area .exit)) at r (decimalℤ z) ⌝ }
 {
     let size = magnitude(z);
     if z < 0 {
@@ -107,7 +104,7 @@ pub fn put_integer(area: &mut [u8], at: usize, z: i64) -> usize
 
 // Writes a space and a count.
 fn put_count(area: &mut [u8], at: usize, x: u64) -> usize
-    ensures { λ r. ⌜ Wrote (now (area .entry)) (now (area .exit)) at r (countText x) ⌝ }
+    ensures wrote { λ r. ⌜ Wrote (now (area .entry)) (now (area .exit)) at r (countText x) ⌝ }
 {
     let next = put_byte(area, at, b' ');
     put_natural(area, next, x)
@@ -115,7 +112,10 @@ fn put_count(area: &mut [u8], at: usize, x: u64) -> usize
 
 // Writes a line that begins with a word: the word and the counts.
 pub fn put_head(area: &mut [u8], at: usize, word: &[u8], counts: &[u64]) -> usize
-    ensures { λ r. ⌜ Wrote (now (area .entry)) (now (area .exit)) at r (headText (now (word .entry)) (now (counts .entry))) ⌝ }
+    ensures wrote { λ r. ⌜
+        (let text = headText (now (word .entry)) (now (counts .entry)) in
+        Wrote (now (area .entry)) (now (area .exit)) at r text)
+        ⌝ }
 {
     let mut end = put_text(area, at, word);
     let mut i = 0;
@@ -128,8 +128,8 @@ pub fn put_head(area: &mut [u8], at: usize, word: &[u8], counts: &[u64]) -> usiz
 
 // Writes number j of a line, with a space before it unless it is the first.
 fn put_entry(area: &mut [u8], at: usize, line: &[i32], j: usize) -> usize
-    requires { ⌜ j < length (now line) ⌝ }
-    ensures { λ r. ⌜ Wrote (now (area .entry)) (now (area .exit)) at r (placedText (now (line .entry)) j) ⌝ }
+    requires entry { ⌜ j < length (now line) ⌝ }
+    ensures wrote { λ r. ⌜ Wrote (now (area .entry)) (now (area .exit)) at r (placedText (now (line .entry)) j) ⌝ }
 {
     let z = line[j] as i64;
     if j == 0 {
@@ -141,7 +141,7 @@ fn put_entry(area: &mut [u8], at: usize, line: &[i32], j: usize) -> usize
 
 // Writes a line of numbers.
 pub fn put_line(area: &mut [u8], at: usize, line: &[i32]) -> usize
-    ensures { λ r. ⌜ Wrote (now (area .entry)) (now (area .exit)) at r (lineText (now (line .entry))) ⌝ }
+    ensures wrote { λ r. ⌜ Wrote (now (area .entry)) (now (area .exit)) at r (lineText (now (line .entry))) ⌝ }
 {
     let mut end = at;
     let mut j = 0;
@@ -154,8 +154,11 @@ pub fn put_line(area: &mut [u8], at: usize, line: &[i32]) -> usize
 
 // Writes the first rows of an area of numbers, a line for each row of `width`.
 pub fn put_rows(area: &mut [u8], at: usize, numbers: &[i32], width: usize, count: usize) -> usize
-    requires { ⌜ count * width ≤ length (now numbers) ⌝ }
-    ensures { λ r. ⌜ Wrote (now (area .entry)) (now (area .exit)) at r (linesText (chunks width count (now (numbers .entry)))) ⌝ }
+    requires rows { ⌜ count * width ≤ length (now numbers) ⌝ }
+    ensures wrote { λ r. ⌜
+        (let text = linesText (chunks width count (now (numbers .entry))) in
+        Wrote (now (area .entry)) (now (area .exit)) at r text)
+        ⌝ }
 {
     let mut end = at;
     let mut from = 0;
@@ -178,35 +181,42 @@ fn put_table(
     width: usize,
     count: usize,
 ) -> usize
-    requires { ⌜ count * width ≤ length (now numbers) ⌝ }
-    ensures { λ r. ⌜ Wrote (now (area .entry)) (now (area .exit)) 0 r (tableText (now (word .entry)) (now (counts .entry)) (chunks width count (now (numbers .entry)))) ⌝ }
+    requires rows { ⌜ count * width ≤ length (now numbers) ⌝ }
+    ensures wrote { λ r. ⌜
+        (let lines = chunks width count (now (numbers .entry)) in
+        let text = tableText (now (word .entry)) (now (counts .entry)) lines in
+        Wrote (now (area .entry)) (now (area .exit)) 0 r text)
+        ⌝ }
 {
     let head = put_head(area, 0, word, counts);
     let rows = put_rows(area, head, numbers, width, count);
     put_text(area, rows, b"END\n")
 }
 
-// Lays an answer's text into the area, with zeros behind it, and answers its length; zeros alone, and a number past the area's length,
-// where the text is longer (Specification 9.4). The lines of numbers are the first rows of `width` numbers.
+// Lays an answer's text into the area, with zeros behind it, and answers its length; zeros alone, and a number past the
+// area's length, where the text is longer (Specification 9.4). Its lines are the first rows of `width` numbers.
 pub fn write_answer(area: &mut [u8], answer: Answer, numbers: &[i32], width: usize) -> usize
-    requires { ⌜ lineCount answer * width ≤ length (now numbers) ⌝ }
-    ensures { λ r. ⌜ Laid (length (now (area .entry))) (now (area .exit)) r (answerText answer (chunks width (lineCount answer) (now (numbers .entry)))) ⌝ }
+    requires rows { ⌜ lineCount answer * width ≤ length (now numbers) ⌝ }
+    ensures laid { λ r. ⌜
+        (let text = rowsText answer width (now (numbers .entry)) in
+        Laid (length (now (area .entry))) (now (area .exit)) r text)
+        ⌝ }
 {
-    clear(area);
+    clear_bytes(&mut *area, 0);
     match answer {
         Answer::Moves {
             rows,
-            order,
+            members,
             stored,
             sums,
         } => {
-            let counts = [rows, order, stored, sums];
+            let counts = [rows, members, stored, sums];
             put_table(area, b"MOVES", &counts, numbers, width, rows as usize)
         }
         Answer::Split {
             pieces,
             rows,
-            order,
+            members,
             stored,
             sums,
         } => {
@@ -222,4 +232,20 @@ pub fn write_answer(area: &mut [u8], answer: Answer, numbers: &[i32], width: usi
             put_head(area, 0, b"REFUSED", &counts)
         }
     }
+}
+
+// A refusal as one number (Specification 9.4).
+fn refusal_code(number: u64, place: u64) -> u64
+    requires fits { ⌜ refusalCode number place < 2 ^ 63 ⌝ }
+    ensures code { λ r. ⌜ r ≡ refusalCode number place ⌝ }
+{
+    PLACE_FACTOR * place + number
+}
+
+// The result of a refusal (Specification 9.4).
+pub fn refusal(number: u64, place: u64) -> i64
+    requires fits { ⌜ refusalCode number place < 2 ^ 63 ⌝ }
+    ensures refused { λ r. ⌜ r ≡ refusalOf number place ⌝ }
+{
+    -(refusal_code(number, place) as i64)
 }

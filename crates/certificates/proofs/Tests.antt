@@ -1,34 +1,34 @@
 -- What the tests 18 and 19 say of one place (Specification 7.2). Assumes nothing.
-use mathlib.Core.Path.{_≡_, refl, sym, _∙_, ap}
+use mathlib.Core.Path.{_≡_, refl, sym, ap}
+use mathlib.Core.Logic.{_⊎_, inl, inr}
 use mathlib.Core.Bool.{true, false, not}
-use mathlib.Core.List.{List, [], _∷_}
+use mathlib.Core.List.{List, []}
 use Prim.Native.Nat.{ℕ, zero, suc, _-_, _≤_, _<_}
 use native.Mathlib.Omega.{arith}
 use borrow.Author.Tests.{ltb-true, ltb-false}
 use lib.IntN.{ℤ, pos, negsuc, negℤ, natAbs}
-use lib.ListN.{length, getD}
+use lib.ListN.{getD}
 use lib.Signed.{ltZ}
 use Rattle.definitions.specs.Vector.{Vector}
 use Rattle.definitions.specs.Orbit.{precedes}
-use Rattle.definitions.specs.Refusals.{faultFrom, faultWhere, isMisplaced}
-use Rattle.theory.proofs.Faults.{fault-start, fault-next, fault-end}
+use Rattle.definitions.specs.Refusals.{isMisplaced}
 use Rattle.vectors.proofs.Cells.{false-true}
 
 -- ---- 18
 
--- row 0 is never out of its place, so that the test may begin with row 1
-pub misplaced-start : (rows : List Vector) → faultFrom 18 1 (length rows - 1) (isMisplaced rows) ≡ faultWhere 18 (length rows) (isMisplaced rows)
+-- row 0 is never out of its place
+pub misplaced-first : (rows : List Vector) (p : ℕ) → p ≡ 0 → false ≡ isMisplaced rows p
 unfolding isMisplaced
-misplaced-start [] = fault-end 18 1 0 (isMisplaced []) (omega arith) ∙ sym (fault-end 18 0 0 (isMisplaced []) (omega arith)) ∙ fault-start 18 0 (isMisplaced [])
-misplaced-start (v ∷ rows) =
-    let all : List Vector = v ∷ rows in
-    sym (fault-next 18 0 (length all) (isMisplaced all) (omega arith) refl) ∙ fault-start 18 (length all) (isMisplaced all)
+misplaced-first rows p e = ap (isMisplaced rows) (sym e)
 
 -- a later row
-pub misplaced-at : (rows : List Vector) (p : ℕ) → 1 ≤ p → not (precedes (getD rows (p - 1) []) (getD rows p [])) ≡ isMisplaced rows p
+pub misplaced-at : (rows : List Vector) (p : ℕ) → 1 ≤ p
+    → not (precedes (getD rows (p - 1) []) (getD rows p [])) ≡ isMisplaced rows p
 unfolding isMisplaced
 misplaced-at rows zero h = absurd (omega arith)
-misplaced-at rows (suc p) h = ap (λ (i : ℕ). not (precedes (getD rows i []) (getD rows (suc p) []))) (let e : suc p - 1 ≡ p = omega arith in e)
+misplaced-at rows (suc p) h =
+    let e : suc p - 1 ≡ p = omega arith in
+    ap (λ (i : ℕ). not (precedes (getD rows i []) (getD rows (suc p) []))) e
 
 -- ---- 19: a number against ±limit
 
@@ -44,8 +44,9 @@ past-under zero (negsuc a) e = omega arith
 past-under (suc limit) (pos a) e = false-true e
 past-under (suc limit) (negsuc a) e = omega (arith, ltb-true limit a e)
 
--- it is neither
-pub past-neither : (limit : ℕ) (x : ℤ) → ltZ (pos limit) x ≡ false → ltZ x (negℤ (pos limit)) ≡ false → natAbs x ≤ limit
-past-neither limit (pos a) e f = ltb-false limit a e
-past-neither zero (negsuc a) e f = false-true (sym f)
-past-neither (suc limit) (negsuc a) e f = omega (arith, ltb-false limit a f)
+-- it is neither above one limit nor under the other
+pub past-neither : (upper lower : ℕ) (x : ℤ) → ltZ (pos upper) x ≡ false → ltZ x (negℤ (pos lower)) ≡ false
+    → (natAbs x ≤ upper) ⊎ (natAbs x ≤ lower)
+past-neither upper lower (pos a) e f = inl (ltb-false upper a e)
+past-neither upper zero (negsuc a) e f = false-true (sym f)
+past-neither upper (suc lower) (negsuc a) e f = inr (omega (arith, ltb-false lower a f))

@@ -1,32 +1,35 @@
-// Tests 17 to 19 of a list that is brought to Check (Specification 5.1 and 7.2): each row fits, stands in its place, and has a certificate.
+// Tests 17 to 19 of a list that is brought to Check (Specification 5.1 and 7.2): each row fits, stands in its place,
+// and has a certificate.
 ghost use mathlib.Core.Path.{_≡_};
-ghost use mathlib.Core.Bool.{true, false};
-ghost use mathlib.Core.List.{[]};
-ghost use Prim.Native.Nat.{_*_, _/_, _≤_, _<_};
+ghost use mathlib.Core.Bool.{false};
+ghost use Prim.Native.Nat.{_/_, _≤_, _<_};
 ghost use lib.IntN.{pos};
 ghost use lib.ListN.{length, getD};
-ghost use Rattle.definitions.specs.Limits.{cells, entryLimit, generatorLimit, coefficientLimit};
+ghost use Rattle.definitions.specs.Limits.{cells, coefficientLimit};
 ghost use Rattle.definitions.specs.Lists.{any};
-ghost use Rattle.definitions.specs.Vector.{within, equal};
+ghost use Rattle.definitions.specs.Vector.{equal};
 ghost use Rattle.definitions.specs.Lattice.{combination};
-ghost use Rattle.definitions.specs.Lent.{chunks, vectorsOf};
-ghost use Rattle.definitions.specs.Refusals.{faultWhere, isPast, isUnfit, isMisplaced, isUncertified, rowsFault};
-ghost use Rattle.reduction.specs.Areas.{Table};
+ghost use Rattle.definitions.specs.Lent.{vectorsOf};
+ghost use Rattle.definitions.specs.Refusals.{isPast, isUnfit, isMisplaced, isUncertified, rowsFault};
+ghost use Rattle.reduction.specs.Areas.{sequencesIn, Table};
+ghost use Rattle.certificates.specs.Tests.{misplacedFault, uncertifiedFault, unfitFault};
+ghost use Rattle.certificates.specs.Tests.{Certifiable, Certificate};
 use definitions::Fault;
-use ordering::precedes;
+use definitions::limits::CELLS;
+use definitions::limits::COEFFICIENT_LIMIT;
+use definitions::limits::ENTRY_LIMIT;
+use reduction::Shape;
 use reduction::representative;
-use refusals::limits::COEFFICIENT_LIMIT;
-use refusals::limits::ENTRY_LIMIT;
-use refusals::vector_at;
-use vectors::CELLS;
+use sorting::precedes;
 use vectors::equal;
 use vectors::is_zero;
+use vectors::vector_at;
 use vectors::within;
 
 // 17: whether a row is zero, has an entry past the limit, or is not the greatest of its images (Specification 7.2).
-fn is_unfit(row: [i32; CELLS], table: &[u8], n: usize, g: usize) -> bool
-    requires { ⌜ Table n g (now table) ⌝ }
-    ensures { λ r. ⌜ r ≡ isUnfit (chunks n g (now (table .entry))) row ⌝ }
+fn is_unfit(row: [i32; CELLS], table: &[u8], shape: Shape) -> bool
+    requires shaped { ⌜ Table shape (now table) ⌝ }
+    ensures told { λ r. ⌜ r ≡ isUnfit (sequencesIn shape (now (table .entry))) row ⌝ }
 {
     if is_zero(row) {
         return true;
@@ -34,19 +37,23 @@ fn is_unfit(row: [i32; CELLS], table: &[u8], n: usize, g: usize) -> bool
     if !within(ENTRY_LIMIT, row) {
         return true;
     }
-    let greatest = representative(row, table, n, g);
+    let greatest = representative(row, table, shape);
     !equal(row, greatest)
 }
 
 // Refusal 17: the first row that does not fit (Specification 7.2).
-fn unfit_fault(n: usize, rows: &[i32], table: &[u8], g: usize) -> Fault
-    requires { ⌜ Table n g (now table) ⌝ }
-    ensures { λ r. ⌜ r ≡ faultWhere 17 (length (vectorsOf n (now (rows .entry)))) (λ p. isUnfit (chunks n g (now (table .entry))) (getD (vectorsOf n (now (rows .entry))) p [])) ⌝ }
+fn unfit_fault(rows: &[i32], table: &[u8], shape: Shape) -> Fault
+    requires shaped { ⌜ Table shape (now table) ⌝ }
+    ensures found { λ r. ⌜
+        (let sequences = sequencesIn shape (now (table .entry)) in
+        r ≡ unfitFault sequences (vectorsOf (shape .n) (now (rows .entry))))
+        ⌝ }
 {
+    let n = shape.n;
     let count = rows.len() / n;
     let mut p = 0;
     while p < count {
-        if is_unfit(vector_at(rows, n, p), table, n, g) {
+        if is_unfit(vector_at(rows, n, p), table, shape) {
             return Fault::At {
                 number: 17,
                 place: p as u64,
@@ -57,17 +64,28 @@ fn unfit_fault(n: usize, rows: &[i32], table: &[u8], g: usize) -> Fault
     Fault::None
 }
 
+// 18: whether row `p` does not come after the row before it (Specification 7.2).
+fn is_misplaced(rows: &[i32], n: usize, p: usize) -> bool
+    requires row { ⌜ (n ≤ cells) × (p < length (now rows) / n) ⌝ }
+    ensures told { λ r. ⌜ r ≡ isMisplaced (vectorsOf n (now (rows .entry))) p ⌝ }
+{
+    if p == 0 {
+        return false;
+    }
+    let earlier = vector_at(rows, n, p - 1);
+    let later = vector_at(rows, n, p);
+    !precedes(earlier, later)
+}
+
 // Refusal 18: the first row that does not come after the row before it (Specification 7.2).
-fn misplaced_fault(n: usize, rows: &[i32]) -> Fault
-    requires { ⌜ (1 ≤ n) × (n ≤ cells) ⌝ }
-    ensures { λ r. ⌜ r ≡ faultWhere 18 (length (vectorsOf n (now (rows .entry)))) (isMisplaced (vectorsOf n (now (rows .entry)))) ⌝ }
+fn misplaced_fault(rows: &[i32], n: usize) -> Fault
+    requires cells { ⌜ (1 ≤ n) × (n ≤ cells) ⌝ }
+    ensures found { λ r. ⌜ r ≡ misplacedFault (vectorsOf n (now (rows .entry))) ⌝ }
 {
     let count = rows.len() / n;
-    let mut p = 1;
+    let mut p = 0;
     while p < count {
-        let earlier = vector_at(rows, n, p - 1);
-        let later = vector_at(rows, n, p);
-        if !precedes(earlier, later) {
+        if is_misplaced(rows, n, p) {
             return Fault::At {
                 number: 18,
                 place: p as u64,
@@ -80,7 +98,7 @@ fn misplaced_fault(n: usize, rows: &[i32]) -> Fault
 
 // Whether a coefficient is past its limit (Specification 7.2).
 fn has_past(coefficients: &[i64]) -> bool
-    ensures { λ r. ⌜ r ≡ any (isPast coefficientLimit) (now (coefficients .entry)) ⌝ }
+    ensures told { λ r. ⌜ r ≡ any (isPast coefficientLimit) (now (coefficients .entry)) ⌝ }
 {
     let mut q = 0;
     while q < coefficients.len() {
@@ -98,15 +116,14 @@ fn has_past(coefficients: &[i64]) -> bool
 
 // Cell `j` of the combination of the generators with these coefficients (Specification 2.2).
 fn combined_cell(coefficients: &[i64], generators: &[i32], n: usize, j: usize) -> i64
-    requires { ⌜ (1 ≤ n) × (n ≤ cells) × (j < cells) ⌝ }
-    requires { ⌜ within entryLimit (now generators) ≡ true ⌝ }
-    requires { ⌜ any (isPast coefficientLimit) (now coefficients) ≡ false ⌝ }
-    requires { ⌜ (length (now generators) / n ≤ generatorLimit) × (length (now coefficients) ≡ length (now generators) / n) ⌝ }
-    ensures { λ r. ⌜ r ≡ getD (combination (now (coefficients .entry)) (vectorsOf n (now (generators .entry)))) j (pos 0) ⌝ }
+    requires cells { ⌜ (n ≤ cells) × (j < n) ⌝ }
+    requires sizes { ⌜ Certificate n (now generators) (now coefficients) ⌝ }
+    requires small { ⌜ any (isPast coefficientLimit) (now coefficients) ≡ false ⌝ }
+    ensures made { λ r. ⌜
+        (let gens = vectorsOf n (now (generators .entry)) in
+        r ≡ getD (combination (now (coefficients .entry)) gens) j (pos 0))
+        ⌝ }
 {
-    if n <= j {
-        return 0;
-    }
     let mut sum: i64 = 0;
     let mut q = 0;
     while q < coefficients.len() {
@@ -117,17 +134,32 @@ fn combined_cell(coefficients: &[i64], generators: &[i32], n: usize, j: usize) -
     sum
 }
 
-// Whether the combination of the generators with these coefficients is the row (Specification 7.2).
-fn combines(coefficients: &[i64], generators: &[i32], n: usize, row: [i32; CELLS]) -> bool
-    requires { ⌜ (1 ≤ n) × (n ≤ cells) ⌝ }
-    requires { ⌜ within entryLimit (now generators) ≡ true ⌝ }
-    requires { ⌜ any (isPast coefficientLimit) (now coefficients) ≡ false ⌝ }
-    requires { ⌜ (length (now generators) / n ≤ generatorLimit) × (length (now coefficients) ≡ length (now generators) / n) ⌝ }
-    ensures { λ r. ⌜ r ≡ equal (combination (now (coefficients .entry)) (vectorsOf n (now (generators .entry)))) row ⌝ }
+// The combination of the generators with these coefficients (Specification 2.2).
+fn combination(coefficients: &[i64], generators: &[i32], n: usize) -> [i64; CELLS]
+    requires cells { ⌜ n ≤ cells ⌝ }
+    requires sizes { ⌜ Certificate n (now generators) (now coefficients) ⌝ }
+    requires small { ⌜ any (isPast coefficientLimit) (now coefficients) ≡ false ⌝ }
+    ensures made { λ r. ⌜
+        (let gens = vectorsOf n (now (generators .entry)) in
+        r ≡ combination (now (coefficients .entry)) gens)
+        ⌝ }
+{
+    let mut sum = [0; CELLS];
+    let mut j = 0;
+    while j < n {
+        sum[j] = combined_cell(coefficients, generators, n, j);
+        j += 1;
+    }
+    sum
+}
+
+// Whether a combination is the row.
+fn equals_row(sum: [i64; CELLS], row: [i32; CELLS]) -> bool
+    ensures told { λ r. ⌜ r ≡ equal sum row ⌝ }
 {
     let mut j = 0;
     while j < CELLS {
-        let cell = combined_cell(coefficients, generators, n, j);
+        let cell = sum[j];
         let entry = row[j] as i64;
         if cell != entry {
             return false;
@@ -137,26 +169,31 @@ fn combines(coefficients: &[i64], generators: &[i32], n: usize, row: [i32; CELLS
     true
 }
 
-// 19: whether a coefficient is past its limit, or the combination is not the row; nothing is multiplied with a coefficient past its limit
-// (Specification 7.2).
+// 19: whether a coefficient is past its limit, or the combination is not the row; nothing is multiplied with a
+// coefficient past its limit (Specification 7.2).
 fn is_uncertified(coefficients: &[i64], generators: &[i32], n: usize, row: [i32; CELLS]) -> bool
-    requires { ⌜ (1 ≤ n) × (n ≤ cells) ⌝ }
-    requires { ⌜ within entryLimit (now generators) ≡ true ⌝ }
-    requires { ⌜ (length (now generators) / n ≤ generatorLimit) × (length (now coefficients) ≡ length (now generators) / n) ⌝ }
-    ensures { λ r. ⌜ r ≡ isUncertified (vectorsOf n (now (generators .entry))) (now (coefficients .entry)) row ⌝ }
+    requires cells { ⌜ n ≤ cells ⌝ }
+    requires sizes { ⌜ Certificate n (now generators) (now coefficients) ⌝ }
+    ensures told { λ r. ⌜
+        (let gens = vectorsOf n (now (generators .entry)) in
+        r ≡ isUncertified gens (now (coefficients .entry)) row)
+        ⌝ }
 {
     if has_past(coefficients) {
         return true;
     }
-    !combines(coefficients, generators, n, row)
+    let sum = combination(coefficients, generators, n);
+    !equals_row(sum, row)
 }
 
 // Refusal 19: the first row without a certificate (Specification 7.2).
-fn uncertified_fault(n: usize, generators: &[i32], rows: &[i32], coefficients: &[i64]) -> Fault
-    requires { ⌜ (1 ≤ n) × (n ≤ cells) ⌝ }
-    requires { ⌜ within entryLimit (now generators) ≡ true ⌝ }
-    requires { ⌜ (length (now generators) / n ≤ generatorLimit) × (length (now coefficients) ≡ length (now rows) / n * (length (now generators) / n)) ⌝ }
-    ensures { λ r. ⌜ r ≡ faultWhere 19 (length (vectorsOf n (now (rows .entry)))) (λ p. isUncertified (vectorsOf n (now (generators .entry))) (getD (chunks (length (vectorsOf n (now (generators .entry)))) (length (vectorsOf n (now (rows .entry)))) (now (coefficients .entry))) p []) (getD (vectorsOf n (now (rows .entry))) p [])) ⌝ }
+fn uncertified_fault(generators: &[i32], rows: &[i32], coefficients: &[i64], n: usize) -> Fault
+    requires cells { ⌜ (1 ≤ n) × (n ≤ cells) ⌝ }
+    requires sizes { ⌜ Certifiable n (now generators) (now rows) (now coefficients) ⌝ }
+    ensures found { λ r. ⌜
+        (let gens = vectorsOf n (now (generators .entry)) in
+        r ≡ uncertifiedFault gens (vectorsOf n (now (rows .entry))) (now (coefficients .entry)))
+        ⌝ }
 {
     let count = rows.len() / n;
     let width = generators.len() / n;
@@ -176,28 +213,32 @@ fn uncertified_fault(n: usize, generators: &[i32], rows: &[i32], coefficients: &
     Fault::None
 }
 
-// Refusals 17 to 19 of a brought list, with the table of the group of order `g` (Specification 5.1 and 7.2).
+// Refusals 17 to 19 of a brought list, with a group's table (Specification 5.1 and 7.2).
 pub fn rows_fault(
-    n: usize,
     generators: &[i32],
     rows: &[i32],
     coefficients: &[i64],
     table: &[u8],
-    g: usize,
+    shape: Shape,
 ) -> Fault
-    requires { ⌜ Table n g (now table) ⌝ }
-    requires { ⌜ within entryLimit (now generators) ≡ true ⌝ }
-    requires { ⌜ (length (now generators) / n ≤ generatorLimit) × (length (now coefficients) ≡ length (now rows) / n * (length (now generators) / n)) ⌝ }
-    ensures { λ r. ⌜ r ≡ rowsFault (chunks n g (now (table .entry))) (vectorsOf n (now (generators .entry))) (vectorsOf n (now (rows .entry))) (now (coefficients .entry)) ⌝ }
+    requires shaped { ⌜ Table shape (now table) ⌝ }
+    requires sizes { ⌜ Certifiable (shape .n) (now generators) (now rows) (now coefficients) ⌝ }
+    ensures found { λ r. ⌜
+        (let sequences = sequencesIn shape (now (table .entry)) in
+        let gens = vectorsOf (shape .n) (now (generators .entry)) in
+        let list = vectorsOf (shape .n) (now (rows .entry)) in
+        r ≡ rowsFault sequences gens list (now (coefficients .entry)))
+        ⌝ }
 {
-    let unfit = unfit_fault(n, rows, table, g);
+    let n = shape.n;
+    let unfit = unfit_fault(rows, table, shape);
     match unfit {
         Fault::At { number, place } => Fault::At { number, place },
         Fault::None => {
-            let misplaced = misplaced_fault(n, rows);
+            let misplaced = misplaced_fault(rows, n);
             match misplaced {
                 Fault::At { number, place } => Fault::At { number, place },
-                Fault::None => uncertified_fault(n, generators, rows, coefficients),
+                Fault::None => uncertified_fault(generators, rows, coefficients, n),
             }
         }
     }

@@ -3,13 +3,14 @@ use mathlib.Core.Path.{_≡_, refl, _∙_, ap, subst⁻¹}
 use mathlib.Core.Bool.{Bool, true, false}
 use Prim.Native.Nat.{ℕ, zero, suc, _+_, _-_, _<_, _≤_, _^_}
 use native.Mathlib.Omega.{arith}
-use lib.Dec.{ltb, lit<}
+use lib.Dec.{ltb}
 use borrow.Author.Tests.{lt-ltb, le-ltb, ltb-true, ltb-false}
-use lib.IntN.{ℤ, pos, negsuc, negℤ, _-ℤ_, +ℤ-idl, -ℤ-one}
+use lib.IntN.{ℤ, pos, negsuc, negℤ, _-ℤ_, -ℤ-one}
 use lib.Signed.{mag}
 use mir.Syntax.{w64, w32}
 use mir.Val.{SFits, toZ, ofZ}
 use mir.ValLaws.{toZ-ofZ}
+use Rattle.vectors.proofs.Negatives.{negated, negated-fits}
 use Rattle.commands.specs.Decode.{signedOf}
 
 -- ---- the definition by cases
@@ -39,31 +40,14 @@ signed-range half v h = go (ltb v half) refl
 
 -- ---- what the code computes
 
--- a number that 64 bits hold
-pub small : (n : ℕ) → n < 2 ^ 63 → toZ w64 n ≡ pos n
-small n h = toZ-ofZ w64 (pos n) (record { sfits = h })
-
--- its negative
-negative-fits : (n : ℕ) → n < 2 ^ 63 → SFits w64 (negℤ (pos n))
-negative-fits zero h = record { sfits = lit< tt }
-negative-fits (suc n) h = record { sfits = omega arith }
-
--- one less than that
+-- one less than the negative
 negative-less : (n : ℕ) → negℤ (pos n) -ℤ pos 1 ≡ negsuc n
 negative-less zero = refl
 negative-less (suc n) = -ℤ-one (negsuc n)
 
 module _ (n : ℕ) (h : n < 2 ^ 63) where
-  -- −n
-  pub flip : pos 0 -ℤ toZ w64 n ≡ negℤ (pos n)
-  flip = ap (λ (z : ℤ). pos 0 -ℤ z) (small n h) ∙ +ℤ-idl (negℤ (pos n))
-
-  -- −n fits
-  pub flip-fits : SFits w64 (pos 0 -ℤ toZ w64 n)
-  flip-fits = subst⁻¹ (SFits w64) flip (negative-fits n h)
-
   less : toZ w64 (ofZ w64 (pos 0 -ℤ toZ w64 n)) -ℤ pos 1 ≡ negsuc n
-  less = ap (λ (z : ℤ). z -ℤ pos 1) (toZ-ofZ w64 (pos 0 -ℤ toZ w64 n) flip-fits ∙ flip) ∙ negative-less n
+  less = ap (λ (z : ℤ). z -ℤ pos 1) (toZ-ofZ w64 (pos 0 -ℤ toZ w64 n) (negated-fits n h) ∙ negated n h) ∙ negative-less n
 
   -- −n − 1 fits
   pub less-fits : SFits w64 (toZ w64 (ofZ w64 (pos 0 -ℤ toZ w64 n)) -ℤ pos 1)

@@ -26,7 +26,7 @@ pub enum Reading {
 
 // The command that is due at an offset.
 pub fn command_at(order: &[u8], at: usize) -> Reading
-    ensures { λ r. ⌜ r ≡ commandAt (now (order .entry)) at ⌝ }
+    ensures due { λ r. ⌜ r ≡ commandAt (now (order .entry)) at ⌝ }
 {
     if order.len() <= at {
         return Reading::Past;
@@ -47,7 +47,7 @@ pub fn command_at(order: &[u8], at: usize) -> Reading
 
 // The byte of a command.
 pub fn code_of(command: Command) -> usize
-    ensures { λ r. ⌜ r ≡ codeOf command ⌝ }
+    ensures code { λ r. ⌜ r ≡ codeOf command ⌝ }
 {
     match command {
         Command::End(_) => 0,
@@ -62,7 +62,7 @@ pub fn code_of(command: Command) -> usize
 
 // Where the operands of a command start.
 pub fn operands_of(command: Command) -> usize
-    ensures { λ r. ⌜ r ≡ operandsOf command ⌝ }
+    ensures start { λ r. ⌜ r ≡ operandsOf command ⌝ }
 {
     match command {
         Command::End(p) => p,
@@ -77,8 +77,8 @@ pub fn operands_of(command: Command) -> usize
 
 // How many bytes the operands of a command take, with n cells and m generators.
 pub fn width_of(command: Command, n: usize, m: usize) -> usize
-    requires { ⌜ (n ≤ cells) × (m ≤ generatorLimit) ⌝ }
-    ensures { λ r. ⌜ r ≡ widthOf command n m ⌝ }
+    requires limited { ⌜ (n ≤ cells) × (m ≤ generatorLimit) ⌝ }
+    ensures width { λ r. ⌜ r ≡ widthOf command n m ⌝ }
 {
     match command {
         Command::End(_) => 0,
@@ -93,15 +93,15 @@ pub fn width_of(command: Command, n: usize, m: usize) -> usize
 
 // A byte, as a wide number.
 fn wide(byte: u8) -> u64
-    ensures { λ r. ⌜ (r ≡ byte) × (r < 256) ⌝ }
+    ensures byte { λ r. ⌜ (r ≡ byte) × (r < 256) ⌝ }
 {
     byte as u64
 }
 
 // The unsigned number of some bytes, the least significant first.
 fn little_at(part: &[u8], at: usize, bytes: usize) -> u64
-    requires { ⌜ (at + bytes ≤ length (now part)) × (bytes ≤ 8) ⌝ }
-    ensures { λ r. ⌜ (r ≡ littleAt (now (part .entry)) at bytes) × (r < 256 ^ bytes) ⌝ }
+    requires room { ⌜ (at + bytes ≤ length (now part)) × (bytes ≤ 8) ⌝ }
+    ensures number { λ r. ⌜ (r ≡ littleAt (now (part .entry)) at bytes) × (r < 256 ^ bytes) ⌝ }
 {
     let mut v: u64 = 0;
     let mut i = bytes;
@@ -114,8 +114,8 @@ fn little_at(part: &[u8], at: usize, bytes: usize) -> u64
 
 // The signed number whose bits in two's complement are those of v; half is the least number with the sign bit.
 fn signed(v: u64, half: u64) -> i64
-    requires { ⌜ (0 < half) × (half ≤ 2 ^ 63) × (v < half + half) ⌝ }
-    ensures { λ r. ⌜ r ≡ signedOf half v ⌝ }
+    requires bits { ⌜ (0 < half) × (half ≤ 2 ^ 63) × (v < half + half) ⌝ }
+    ensures number { λ r. ⌜ r ≡ signedOf half v ⌝ }
 {
     if v < half {
         return v as i64;
@@ -127,16 +127,16 @@ fn signed(v: u64, half: u64) -> i64
 
 // The signed number of two bytes, in a part of the order.
 pub fn short_at(part: &[u8], at: usize) -> i32
-    requires { ⌜ at + 2 ≤ length (now part) ⌝ }
-    ensures { λ r. ⌜ r ≡ shortAt (now (part .entry)) at ⌝ }
+    requires room { ⌜ at + 2 ≤ length (now part) ⌝ }
+    ensures number { λ r. ⌜ r ≡ shortAt (now (part .entry)) at ⌝ }
 {
     signed(little_at(part, at, 2), 0x8000) as i32
 }
 
 // The signed number of four bytes, in a part of the order.
 pub fn word_at(part: &[u8], at: usize) -> i32
-    requires { ⌜ at + 4 ≤ length (now part) ⌝ }
-    ensures { λ r. ⌜ r ≡ wordAt (now (part .entry)) at ⌝ }
+    requires room { ⌜ at + 4 ≤ length (now part) ⌝ }
+    ensures number { λ r. ⌜ r ≡ wordAt (now (part .entry)) at ⌝ }
 {
     signed(little_at(part, at, 4), 0x8000_0000) as i32
 }

@@ -1,5 +1,7 @@
-pub mod Sums
+-- Laws that the proofs of the completion share, and those that callers cite.
+pub mod Appending
 pub mod Facts
-pub mod Turns
 pub mod FirstRows
 pub mod Joined
+pub mod Sums
+pub mod Turns

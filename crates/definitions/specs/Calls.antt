@@ -1,5 +1,5 @@
--- Specification 1.1 and 7.4: the three lent calls. For each input the answer, and what every area lent for writing holds at the end.
--- An area lent for writing is given by its size. Assumes nothing.
+-- Specification 1.1 and 7.4: the three lent calls. For each input the answer, and what every area lent for writing
+-- holds at the end. Such an area is given by its size. Assumes nothing.
 use mathlib.Core.List.{List, [], _∷_, map}
 use Prim.Native.Nat.{ℕ, _/_}
 use lib.IntN.{ℤ, pos}
@@ -13,12 +13,15 @@ use Rattle.definitions.specs.Vector.{Vector, padded}
 use Rattle.definitions.specs.Group.{Exchange}
 use Rattle.definitions.specs.Completion.{Completion, running, stopped, completed, finalRows, sumCount}
 use Rattle.definitions.specs.Split.{Piece, placedOrbits, splitting, written}
-use Rattle.definitions.specs.Lent.{filled, vectorsOf, numbersOf, Order, generatorsOf, listRows, tableOf}
-use Rattle.definitions.specs.Refusals.{Outcome, accepted, refused, firstFault, unlessFault, cellsFault, listSizeFault, splitSizeFault, checkSizeFault, orderFault, splitFault, rowsFault, wholenessFault}
+use Rattle.definitions.specs.Lent.{Order, generatorsOf, tableOf}
+use Rattle.definitions.specs.Lent.{filled, listRows, numbersOf, vectorsOf, wholeRows}
+use Rattle.definitions.specs.Refusals.{Outcome, accepted, refused, firstFault, unlessFault, admissionFault}
+use Rattle.definitions.specs.Refusals.{cellsFault, splitSizeFault, splitFault}
+use Rattle.definitions.specs.Refusals.{broughtFits, rowsFault, wholenessFault}
 
 -- ---- List
 
--- what a List finds: its rows in order, the group's table, the number of rows stored and of sums tried
+-- what a List finds: its rows, sorted, the group's table, the number of rows stored and of sums tried
 pub record Listing : Type 0 where
   pub rows : List Vector
   pub table : List Exchange
@@ -35,8 +38,7 @@ listingOf table (running s) =
 unfoldable pub listing : Order → (listSize groupSize : ℕ) → Outcome Listing
 listing order listSize groupSize =
     let table = tableOf order groupSize in
-    unlessFault
-    (firstFault (cellsFault (order .n) ∷ listSizeFault order listSize groupSize ∷ orderFault order groupSize ∷ []))
+    unlessFault (admissionFault order groupSize (wholeRows (order .n) listSize))
     (listingOf table (completed table (listRows (order .n) listSize) (generatorsOf order)))
 
 -- the end of a List: its answer, and its areas
@@ -96,7 +98,9 @@ splitEnd n listSize groupSize piecesSize (refused number place) =
 splitEnd n listSize groupSize piecesSize (accepted found) =
     let listed = found .listing in
     record {
-      answer = Split (length (found .pieces)) (length (listed .rows)) (length (listed .table)) (listed .stored) (listed .sums);
+      answer =
+          Split (length (found .pieces)) (length (listed .rows)) (length (listed .table)) (listed .stored)
+          (listed .sums);
       list = filled (pos 0) listSize (numbersOf n (listed .rows));
       group = filled 0 groupSize (concat (listed .table));
       pieces = filled (pos 0) piecesSize (concat (map written (found .pieces)));
@@ -112,9 +116,7 @@ splitCall order vector listSize groupSize piecesSize =
 unfoldable pub rulesFault : Order → (rows coefficients : List ℤ) (groupSize : ℕ) → Fault
 rulesFault order rows coefficients groupSize =
     firstFault
-    (cellsFault (order .n)
-    ∷ checkSizeFault order rows coefficients groupSize
-    ∷ orderFault order groupSize
+    (admissionFault order groupSize (broughtFits order rows coefficients)
     ∷ rowsFault (tableOf order groupSize) (generatorsOf order) (vectorsOf (order .n) rows) coefficients
     ∷ [])
 
@@ -132,7 +134,8 @@ pub record CheckEnd : Type 0 where
   pub group : List ℕ
 
 unfoldable pub checkEnd : (groupSize rows : ℕ) (table : List Exchange) → Fault → CheckEnd
-checkEnd groupSize rows table (At number place) = record { answer = Refused number place; group = filled 0 groupSize [] }
+checkEnd groupSize rows table (At number place) =
+    record { answer = Refused number place; group = filled 0 groupSize [] }
 checkEnd groupSize rows table None =
     record { answer = Passed rows (sumCount (length table) rows); group = filled 0 groupSize (concat table) }
 

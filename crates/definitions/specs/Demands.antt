@@ -23,16 +23,16 @@ pub record OneRow (n : ℕ) (sent : List Exchange) (rows : List Vector) (v : Vec
   pub image : IsImage n sent v (getD rows row [])
   pub only : (r : ℕ) → r < length rows → IsImage n sent v (getD rows r []) → r ≡ row
 
--- 2.8: each row is in the Graver basis, and each vector of the Graver basis is an image of exactly one row
+-- 2.8: the rows are Graver vectors, and every orbit of Graver vectors has one of them, and no other
 pub record Whole (n : ℕ) (sent : List Exchange) (generators rows : List Vector) : Type 0 where
   pub sound : (r : ℕ) → r < length rows → Graver generators (getD rows r [])
   pub complete : (v : Vector) → Graver generators v → OneRow n sent rows v
 
--- 2.7: each row stands before the next
-pub record InOrder (rows : List Vector) : Type 0 where
+-- 2.7: each row precedes the next
+pub record Sorted (rows : List Vector) : Type 0 where
   pub ascending : (r : ℕ) → suc r < length rows → precedes (getD rows r []) (getD rows (suc r) []) ≡ true
 
--- 2.5: the table holds the members of the group and nothing else, in ascending order
+-- 2.5: the table holds the members of the group and nothing else, ascending
 pub record IsTable (n : ℕ) (sent table : List Exchange) : Type 0 where
   pub sound : (s : Exchange) → List·Memᴰ s table → InGroup n sent s
   pub complete : (s : Exchange) → InGroup n sent s → List·Memᴰ s table
@@ -41,17 +41,21 @@ pub record IsTable (n : ℕ) (sent table : List Exchange) : Type 0 where
 -- demand 2, List: what holds of each accepted listing
 pub record ListKept (order : Order) (found : Listing) : Type 0 where
   pub whole : Whole (order .n) (exchangesOf order) (generatorsOf order) (found .rows)
-  pub inOrder : InOrder (found .rows)
-  pub greatestImages : (r : ℕ) → r < length (found .rows) → representative (found .table) (getD (found .rows) r []) ≡ getD (found .rows) r []
+  pub sorted : Sorted (found .rows)
+  pub greatestImages : (r : ℕ) → r < length (found .rows)
+      → representative (found .table) (getD (found .rows) r []) ≡ getD (found .rows) r []
   pub limited : (r : ℕ) → r < length (found .rows) → within entryLimit (getD (found .rows) r []) ≡ true
   pub table : IsTable (order .n) (exchangesOf order) (found .table)
   pub counted : found .sums ≡ sumCount (length (found .table)) (found .stored)
 
--- 4.2: a piece is a listed image, at the row and the position that it names, taken at least once, and opposes v in no cell
+-- 4.2: a piece is a listed image, at the row and the position that it names, taken at least once, and opposes v in
+-- no cell
 pub record IsPiece (table : List Exchange) (rows : List Vector) (v : Vector) (piece : Piece) : Type 0 where
   pub row : piece .image .row < length rows
   pub position : piece .image .position < length table
-  pub image : piece .image .vector ≡ signed (piece .image .positive) (exchanged (getD table (piece .image .position) []) (getD rows (piece .image .row) []))
+  pub image : piece .image .vector
+      ≡ signed (piece .image .positive)
+      (exchanged (getD table (piece .image .position) []) (getD rows (piece .image .row) []))
   pub taken : 0 < piece .count
   pub conforms : opposes (piece .image .vector) v ≡ false
 
@@ -60,13 +64,14 @@ pub record SplitKept (table : List Exchange) (rows : List Vector) (v : Vector) (
   pub addsUp : total (map share pieces) ≡ v
   pub each : (piece : Piece) → List·Memᴰ piece pieces → IsPiece table rows v piece
 
--- demand 3: v is a sum of images of rows, none opposing it in any cell
+-- demand 3: v is a conformal sum (2.3) of images of rows
 pub record ConformalSum (n : ℕ) (sent : List Exchange) (rows : List Vector) (v : Vector) : Type 0 where
   pub summands : List Vector
-  pub images : (u : Vector) → List·Memᴰ u summands → (r : ℕ) × (r < length rows) × IsImage n sent u (getD rows r [])
+  pub images : (u : Vector) → List·Memᴰ u summands
+      → (r : ℕ) × (r < length rows) × IsImage n sent u (getD rows r [])
   pub conform : (u : Vector) → List·Memᴰ u summands → opposes u v ≡ false
   pub addsUp : total summands ≡ v
 
--- 5.2: the order, the areas and the brought rows meet no test under size, generators and exchanges, and none of 17 to 19
+-- 5.2: none of the tests 5 to 11 and 17 to 19 is met
 abbrev pub RulesKept : Order → (rows coefficients : List ℤ) (groupSize : ℕ) → Type 0
 RulesKept order rows coefficients groupSize = rulesFault order rows coefficients groupSize ≡ None

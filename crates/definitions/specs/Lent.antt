@@ -45,6 +45,9 @@ pub record Order : Type 0 where
   pub generators : List ℤ
   pub exchanges : List ℕ
 
+abbrev pub orderOf : (n : ℕ) (generators : List ℤ) (exchanges : List ℕ) → Order
+orderOf n generators exchanges = record { n = n; generators = generators; exchanges = exchanges }
+
 unfoldable pub generatorsOf : Order → List Vector
 generatorsOf order = vectorsOf (order .n) (order .generators)
 

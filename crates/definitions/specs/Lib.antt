@@ -1,4 +1,4 @@
--- What a reader must believe, in the order of docs/SPECIFICATION.md.
+-- What a reader must believe, section by section of docs/SPECIFICATION.md.
 pub mod Limits
 pub mod Lists
 pub mod Vector

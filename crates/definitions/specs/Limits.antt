@@ -9,7 +9,7 @@ cells = 16
 abbrev pub entryLimit : ℕ
 entryLimit = 10_000
 
--- 10: the greatest order of a group
+-- 10: the most members of a group
 abbrev pub groupLimit : ℕ
 groupLimit = 1_152
 
@@ -40,3 +40,7 @@ pieceWidth = 4
 -- the pieces for which programs and C calls lend room
 abbrev pub lentPieces : ℕ
 lentPieces = 64
+
+-- 8.3: the first bytes of a file, to which the answer is the answer to the file
+abbrev pub orderLimit : ℕ
+orderLimit = 65_536

@@ -7,15 +7,18 @@ use lib.Dec.{leb, eqb}
 use lib.ListN.{length, getD}
 use Rattle.definitions.specs.declared.Fault.{Fault}
 use Rattle.definitions.specs.declared.Fault.the-variants.{None, At}
-use Rattle.definitions.specs.Limits.{cells, entryLimit, listLimit, generatorLimit, exchangeLimit, splitLimit, coefficientLimit, pieceWidth}
+use Rattle.definitions.specs.Limits.{cells, entryLimit, splitLimit, coefficientLimit}
+use Rattle.definitions.specs.Limits.{listLimit, generatorLimit, exchangeLimit, pieceWidth}
 use Rattle.definitions.specs.Lists.{if_then_else_, any}
 use Rattle.definitions.specs.Vector.{Vector, negative, within, isZero, equal, isMember}
 use Rattle.definitions.specs.Lattice.{combination}
 use Rattle.definitions.specs.Group.{Exchange, isExchange, exchanged}
 use Rattle.definitions.specs.Orbit.{representative, precedes}
-use Rattle.definitions.specs.Completion.{State, firstState, sumAt, next, isFinished, remainder, hasOtherBelow, sumCount}
+use Rattle.definitions.specs.Completion.{State, firstState, sumAt, next, isFinished, sumCount}
+use Rattle.definitions.specs.Completion.{remainder, hasOtherBelow}
 use Rattle.definitions.specs.Split.{Splitting}
-use Rattle.definitions.specs.Lent.{wholeRows, wholeRowsUpTo, chunks, Order, generatorsOf, exchangesOf, groupRows, tableOf}
+use Rattle.definitions.specs.Lent.{Order, generatorsOf, exchangesOf, groupRows, tableOf}
+use Rattle.definitions.specs.Lent.{wholeRows, wholeRowsUpTo, chunks}
 
 -- ---- 7.1: how tests are run
 
@@ -61,22 +64,19 @@ orderFits order =
     wholeRowsUpTo generatorLimit (order .n) (length (order .generators))
     && wholeRowsUpTo exchangeLimit (order .n) (length (order .exchanges))
 
--- of a List: also the list area and the group area
-unfoldable pub listSizeFault : Order → (listSize groupSize : ℕ) → Fault
-listSizeFault order listSize groupSize =
-    faultIf 6 (not (orderFits order && wholeRows (order .n) listSize && wholeRows (order .n) groupSize))
+-- also the group area, and what else a call lends
+unfoldable pub sizeFault : Order → (groupSize : ℕ) (fits : Bool) → Fault
+sizeFault order groupSize fits = faultIf 6 (not (orderFits order && wholeRows (order .n) groupSize && fits))
 
 -- what a Split adds: the vector has exactly n numbers, the pieces area whole rows
 unfoldable pub splitSizeFault : (n : ℕ) (vector : List ℤ) (piecesSize : ℕ) → Fault
 splitSizeFault n vector piecesSize = faultIf 6 (not (eqb (length vector) n && wholeRows pieceWidth piecesSize))
 
--- of a Check: also the group area, the brought rows, and one coefficient for each row and generator
-unfoldable pub checkSizeFault : Order → (rows coefficients : List ℤ) (groupSize : ℕ) → Fault
-checkSizeFault order rows coefficients groupSize =
-    faultIf 6
-    (not
-    (orderFits order && wholeRows (order .n) groupSize && wholeRowsUpTo listLimit (order .n) (length rows)
-    && eqb (length coefficients) (length rows / order .n * (length (order .generators) / order .n))))
+-- what else a Check lends: the brought rows are whole and not too many, with one coefficient for each row and generator
+unfoldable pub broughtFits : Order → (rows coefficients : List ℤ) → Bool
+broughtFits order rows coefficients =
+    wholeRowsUpTo listLimit (order .n) (length rows)
+    && eqb (length coefficients) (length rows / order .n * (length (order .generators) / order .n))
 
 -- ---- 7.2, generators and exchanges: 7 to 11
 
@@ -91,17 +91,34 @@ isGenerator generators v = isMember v generators || isMember (negative v) genera
 unfoldable pub leavesGenerators : (generators : List Vector) (sent : List Exchange) → Vector → Bool
 leavesGenerators generators sent v = any (λ s. not (isGenerator generators (exchanged s v))) sent
 
-unfoldable pub orderFault : Order → (groupSize : ℕ) → Fault
-orderFault order groupSize =
+-- 7 to 9: the numbers that are sent
+unfoldable pub numbersFault : Order → Fault
+numbersFault order =
     let generators = generatorsOf order in
     let sent = exchangesOf order in
     firstFault
     (faultWhere 7 (length (order .generators)) (λ p. isPast entryLimit (getD (order .generators) p (pos 0)))
     ∷ faultWhere 8 (length generators) (λ p. isZero (getD generators p []))
     ∷ faultWhere 9 (length sent) (λ p. not (isExchange (order .n) (getD sent p [])))
-    ∷ faultIf 10 (not (leb (length (tableOf order groupSize)) (groupRows (order .n) groupSize)))
-    ∷ faultWhere 11 (length generators) (λ p. leavesGenerators generators sent (getD generators p []))
     ∷ [])
+
+-- 10 and 11: the group, and the lattice that it keeps
+unfoldable pub symmetryFault : Order → (groupSize : ℕ) → Fault
+symmetryFault order groupSize =
+    let generators = generatorsOf order in
+    firstFault
+    (faultIf 10 (not (leb (length (tableOf order groupSize)) (groupRows (order .n) groupSize)))
+    ∷ faultWhere 11 (length generators) (λ p. leavesGenerators generators (exchangesOf order) (getD generators p []))
+    ∷ [])
+
+-- 7 to 11
+unfoldable pub orderFault : Order → (groupSize : ℕ) → Fault
+orderFault order groupSize = firstFault (numbersFault order ∷ symmetryFault order groupSize ∷ [])
+
+-- 5 to 11: the tests with which every call begins; `fits` says whether what else it lends has the right size
+unfoldable pub admissionFault : Order → (groupSize : ℕ) (fits : Bool) → Fault
+admissionFault order groupSize fits =
+    firstFault (cellsFault (order .n) ∷ sizeFault order groupSize fits ∷ orderFault order groupSize ∷ [])
 
 -- ---- 7.2, split: 14 to 16
 

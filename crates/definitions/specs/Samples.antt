@@ -7,7 +7,7 @@ use lib.ListN.{length, replicate}
 use Rattle.definitions.specs.declared.Answer.{Answer}
 use Rattle.definitions.specs.declared.Answer.the-variants.{Moves, Split, Refused}
 use Rattle.definitions.specs.Limits.{groupLimit, listLimit, lentPieces, pieceWidth}
-use Rattle.definitions.specs.Lent.{Order}
+use Rattle.definitions.specs.Lent.{Order, orderOf}
 use Rattle.definitions.specs.Calls.{listCall, splitCall, checkCall}
 
 -- a lent call; `listRows` are the list rows lent
@@ -47,10 +47,6 @@ abbrev +_ : ℕ → ℤ
 abbrev −_ : ℕ → ℤ
 − k = negℤ (pos k)
 
--- an order
-sent : ℕ → List ℤ → List ℕ → Order
-sent n generators exchanges = record { n = n; generators = generators; exchanges = exchanges }
-
 -- an area of `size` numbers: these, and zeros
 area : {A : Type 0} → A → ℕ → List A → List A
 area blank size numbers = numbers ++ replicate (size - length numbers) blank
@@ -59,7 +55,12 @@ area blank size numbers = numbers ++ replicate (size - length numbers) blank
 moves : ℕ → Answer → List ℤ → List ℕ → End
 unfolding area
 moves n answer rows table =
-    record { answer = answer; list = area (pos 0) (n * listLimit) rows; group = area 0 (n * groupLimit) table; pieces = [] }
+    record {
+      answer = answer;
+      list = area (pos 0) (n * listLimit) rows;
+      group = area 0 (n * groupLimit) table;
+      pieces = [];
+    }
 
 -- the end of a refused call that lends so many list rows and pieces
 turnedDown : ℕ → Answer → ℕ → ℕ → End
@@ -73,37 +74,40 @@ turnedDown n answer listRows pieces =
     }
 
 p2 : Order
-unfolding sent
-p2 = sent 1 (+ 2 ∷ + 3 ∷ []) []
+p2 = orderOf 1 (+ 2 ∷ + 3 ∷ []) []
 
 p3 : List ℤ
 p3 = + 1 ∷ − 1 ∷ + 0 ∷ + 0 ∷ + 1 ∷ − 1 ∷ []
 
 p4 : Order
-unfolding sent
-p4 = sent 3 (+ 1 ∷ + 0 ∷ − 1 ∷ + 2 ∷ − 1 ∷ + 0 ∷ + 0 ∷ − 1 ∷ + 2 ∷ []) (3 ∷ 2 ∷ 1 ∷ [])
+p4 = orderOf 3 (+ 1 ∷ + 0 ∷ − 1 ∷ + 2 ∷ − 1 ∷ + 0 ∷ + 0 ∷ − 1 ∷ + 2 ∷ []) (3 ∷ 2 ∷ 1 ∷ [])
 
 unfoldable pub samples : List Sample
-unfolding sent area moves turnedDown p2 p3 p4
+unfolding area moves turnedDown p2 p3 p4
 samples =
     -- P1: n 1, no generators
-    record { call = list (sent 1 [] []) listLimit; end = moves 1 (Moves 0 1 0 0) [] (1 ∷ []) }
+    record { call = list (orderOf 1 [] []) listLimit; end = moves 1 (Moves 0 1 0 0) [] (1 ∷ []) }
     -- P2: (2), (3)
     ∷ record { call = list p2 listLimit; end = moves 1 (Moves 1 1 3 12) (+ 1 ∷ []) (1 ∷ []) }
     -- P3: (1,−1,0), (0,1,−1)
     ∷ record {
-      call = list (sent 3 p3 []) listLimit;
+      call = list (orderOf 3 p3 []) listLimit;
       end = moves 3 (Moves 3 1 3 12) (+ 1 ∷ + 0 ∷ − 1 ∷ + 1 ∷ − 1 ∷ + 0 ∷ + 0 ∷ + 1 ∷ − 1 ∷ []) (1 ∷ 2 ∷ 3 ∷ []);
     }
     -- P4: the order of the sample file
     ∷ record {
       call = list p4 listLimit;
-      end = moves 3 (Moves 3 2 3 24) (+ 1 ∷ + 0 ∷ − 1 ∷ + 2 ∷ − 1 ∷ + 0 ∷ + 1 ∷ − 1 ∷ + 1 ∷ []) (1 ∷ 2 ∷ 3 ∷ 3 ∷ 2 ∷ 1 ∷ []);
+      end =
+          moves 3 (Moves 3 2 3 24) (+ 1 ∷ + 0 ∷ − 1 ∷ + 2 ∷ − 1 ∷ + 0 ∷ + 1 ∷ − 1 ∷ + 1 ∷ [])
+          (1 ∷ 2 ∷ 3 ∷ 3 ∷ 2 ∷ 1 ∷ []);
     }
     -- P5: P4 with 2 list rows
     ∷ record { call = list p4 2; end = turnedDown 3 (Refused 13 6) 2 0 }
     -- P6: (10000,1), (1,10000)
-    ∷ record { call = list (sent 2 (+ 10_000 ∷ + 1 ∷ + 1 ∷ + 10_000 ∷ []) []) listLimit; end = turnedDown 2 (Refused 12 7) listLimit 0 }
+    ∷ record {
+      call = list (orderOf 2 (+ 10_000 ∷ + 1 ∷ + 1 ∷ + 10_000 ∷ []) []) listLimit;
+      end = turnedDown 2 (Refused 12 7) listLimit 0;
+    }
     -- P7: P2, split (5)
     ∷ record {
       call = split p2 (+ 5 ∷ []);
@@ -115,15 +119,24 @@ samples =
       };
     }
     -- P8: (2), split (1)
-    ∷ record { call = split (sent 1 (+ 2 ∷ []) []) (+ 1 ∷ []); end = turnedDown 1 (Refused 15 0) listLimit lentPieces }
+    ∷ record {
+      call = split (orderOf 1 (+ 2 ∷ []) []) (+ 1 ∷ []);
+      end = turnedDown 1 (Refused 15 0) listLimit lentPieces;
+    }
     -- P9: (1,0), exchange 2 1
-    ∷ record { call = list (sent 2 (+ 1 ∷ + 0 ∷ []) (2 ∷ 1 ∷ [])) listLimit; end = turnedDown 2 (Refused 11 0) listLimit 0 }
+    ∷ record {
+      call = list (orderOf 2 (+ 1 ∷ + 0 ∷ []) (2 ∷ 1 ∷ [])) listLimit;
+      end = turnedDown 2 (Refused 11 0) listLimit 0;
+    }
     -- P10: Check (1): rows (1), (2), coefficients 1, 2
-    ∷ record { call = check (sent 1 (+ 1 ∷ []) []) (+ 1 ∷ + 2 ∷ []) (+ 1 ∷ + 2 ∷ []); end = turnedDown 1 (Refused 22 1) 0 0 }
+    ∷ record {
+      call = check (orderOf 1 (+ 1 ∷ []) []) (+ 1 ∷ + 2 ∷ []) (+ 1 ∷ + 2 ∷ []);
+      end = turnedDown 1 (Refused 22 1) 0 0;
+    }
     -- P11: Check (1): no rows
-    ∷ record { call = check (sent 1 (+ 1 ∷ []) []) [] []; end = turnedDown 1 (Refused 20 0) 0 0 }
+    ∷ record { call = check (orderOf 1 (+ 1 ∷ []) []) [] []; end = turnedDown 1 (Refused 20 0) 0 0 }
     -- P12: Check P3's generators as rows, coefficients 1 0 and 0 1
-    ∷ record { call = check (sent 3 p3 []) p3 (+ 1 ∷ + 0 ∷ + 0 ∷ + 1 ∷ []); end = turnedDown 3 (Refused 21 3) 0 0 }
+    ∷ record { call = check (orderOf 3 p3 []) p3 (+ 1 ∷ + 0 ∷ + 0 ∷ + 1 ∷ []); end = turnedDown 3 (Refused 21 3) 0 0 }
     ∷ []
 
 -- each line's call ends as the line says

@@ -4,14 +4,14 @@
 pub enum Answer {
     Moves {
         rows: u64,
-        order: u64,
+        members: u64,
         stored: u64,
         sums: u64,
     },
     Split {
         pieces: u64,
         rows: u64,
-        order: u64,
+        members: u64,
         stored: u64,
         sums: u64,
     },
@@ -30,3 +30,6 @@ pub enum Fault {
     None,
     At { number: u64, place: u64 },
 }
+
+// The limits.
+pub mod limits;

@@ -12,11 +12,16 @@ use Rattle.definitions.specs.declared.Fault.the-variants.{None, At}
 use Rattle.definitions.specs.Lists.{concat}
 use Rattle.definitions.specs.Group.{Exchange}
 use Rattle.definitions.specs.Completion.{sumCount}
-use Rattle.definitions.specs.Lent.{Order, chunks, exchangesOf, filled, generatorsOf, tableOf, vectorsOf}
-use Rattle.definitions.specs.Refusals.{cellsFault, checkSizeFault, firstFault, orderFault, rowsFault}
+use Rattle.definitions.specs.Lent.{Order, exchangesOf, filled, generatorsOf, tableOf, vectorsOf}
+use Rattle.definitions.specs.Limits.{entryLimit}
+use Rattle.definitions.specs.Refusals.{admissionFault, broughtFits, firstFault, rowsFault}
 use Rattle.definitions.specs.Calls.{checkCall, checkEnd, checkFault, rulesFault}
 use Rattle.definitions.specs.Demands.{RulesKept, Whole}
+use Rattle.theory.proofs.Accepted.{Admitted, order-none}
+use Rattle.theory.proofs.Bounds.{each-within}
 use Rattle.theory.proofs.Whole.{orbits-positive}
+use Rattle.reduction.specs.declared.Shape.{Shape}
+use Rattle.reduction.specs.Areas.{sequencesIn}
 use Rattle.theory.proofs.Areas.{filled-nothing}
 use Rattle.theory.proofs.CheckCall.{check-answer, check-conformal, check-whole, rows-limited, rows-stored, rules-facts, vectors-count}
 use Rattle.theory.proofs.Faults.{first-append, first-nested, met-first, unmet-second}
@@ -43,25 +48,32 @@ pub checks-is : {rows size : ℕ} {table : List Exchange} {fault : Fault} {group
 checks-is {rows} {size} {table} {fault} {group} C e = subst (Checks rows size table fault group) e C
 
 -- 17 to 19 are not met: what the tests of wholeness ask
-pub brought-ready : {n g : ℕ} {generators rows coefficients : List ℤ} {group : List ℕ} → Grouped n g generators group → Sized n generators rows coefficients → rowsFault (chunks n g group) (vectorsOf n generators) (vectorsOf n rows) coefficients ≡ None
-    → Brought n g group rows
-brought-ready {n} {g} {generators} {rows} {coefficients} {group} G Z passed =
+pub brought-ready : {shape : Shape} {generators rows coefficients : List ℤ} {group : List ℕ} → Grouped shape generators group → Sized (shape .n) generators rows coefficients → rowsFault (sequencesIn shape group) (vectorsOf (shape .n) generators) (vectorsOf (shape .n) rows) coefficients ≡ None
+    → Brought shape group rows
+brought-ready {shape} {generators} {rows} {coefficients} {group} G Z passed =
+    let n : ℕ = shape .n in
     let enough : length (vectorsOf n rows) * length (vectorsOf n generators) ≤ length coefficients = omega (arith, Z .oneEach, ap₂ _*_ (vectors-count n rows) (vectors-count n generators)) in
     record {
       rowsOfTable = G .table;
       some = G .some;
-      order = G .few;
+      small = G .small;
       whole = Z .whole;
       few = Z .few;
-      entries = rows-limited (G .ordered .symmetric) (vectorsOf n rows) coefficients enough passed;
-      positive = orbits-positive (G .ordered .symmetric) (vectorsOf n rows) (rows-stored (G .ordered .symmetric) (vectorsOf n rows) coefficients enough passed);
+      entries = rows-limited (G .admissible .symmetric) (vectorsOf n rows) coefficients enough passed;
+      positive = orbits-positive (G .admissible .symmetric) (vectorsOf n rows) (rows-stored (G .admissible .symmetric) (vectorsOf n rows) coefficients enough passed);
     }
 
--- 6 is not met
-pub sized-none : (order : Order) (rows coefficients : List ℤ) (groupSize : ℕ) → checkSizeFault order rows coefficients groupSize ≡ None → Sized (order .n) (order .generators) rows coefficients
-sized-none order rows coefficients groupSize e =
-    let Z = sizes-of-check order rows coefficients groupSize e in
-    record { whole = Z .whole; few = Z .few; generatorsFew = Z .sized .generators; oneEach = Z .oneEach }
+-- none of 5 to 11 is met
+pub sized-none : (order : Order) (rows coefficients : List ℤ) (groupSize : ℕ) → Admitted order groupSize (broughtFits order rows coefficients) → Sized (order .n) (order .generators) rows coefficients
+sized-none order rows coefficients groupSize P =
+    let Z = sizes-of-check order rows coefficients groupSize (P .sizesPass) in
+    record {
+      limited = each-within entryLimit (order-none order groupSize (P .testsPass) .sendable .limited);
+      generatorsFew = Z .sized .generators;
+      whole = Z .whole;
+      few = Z .few;
+      oneEach = Z .oneEach;
+    }
 
 module _ (order : Order) (brought coefficients : List ℤ) (groupSize : ℕ) where
   abbrev table : List Exchange
@@ -70,40 +82,26 @@ module _ (order : Order) (brought coefficients : List ℤ) (groupSize : ℕ) whe
   abbrev fault : Fault
   fault = checkFault order brought coefficients groupSize
 
-  -- 7 to 22
-  abbrev later : Fault
-  later = firstFault (orderFault order groupSize ∷ broughtFault (order .n) table (order .generators) brought coefficients ∷ [])
+  -- 5 to 11
+  abbrev admission : Fault
+  admission = admissionFault order groupSize (broughtFits order brought coefficients)
 
-  -- one of 7 to 11 is met
-  pub checks-early : (number place : ℕ) {rows : ℕ} {group : List ℕ} → orderFault order groupSize ≡ At number place → Checks rows groupSize table later group (checked.Refused number place)
-  checks-early number place e = checks-refused (sym (met-first number place _ e))
+  -- one after the other
+  tests : fault ≡ firstFault (admission ∷ broughtFault (order .n) table (order .generators) brought coefficients ∷ [])
+  unfolding checkFault rulesFault generatorsOf
+  tests = sym (first-append (_ ∷ _ ∷ []) (_ ∷ [])) ∙ first-nested admission _
+
+  -- one of 5 to 11 is met
+  pub checks-early : (number place : ℕ) {rows : ℕ} {group : List ℕ} → admission ≡ At number place → Checks rows groupSize table fault group (checked.Refused number place)
+  checks-early number place e = checks-refused (tests ∙ sym (met-first number place _ e))
 
   -- none of them is, and 17 to 22 came to `found`
-  pub checks-brought : (g : ℕ) {rows : ℕ} {group : List ℕ} {r : Checked} {found : Fault} → orderFault order groupSize ≡ None → chunks (order .n) g group ≡ table → g ≡ length table → group ≡ filled 0 groupSize (concat table)
-      → found ≡ broughtFault (order .n) (chunks (order .n) g group) (order .generators) brought coefficients → r ≡ checkedOf rows g found → Checks rows groupSize table later group r
-  checks-brought g {rows} {group} {r} {found} passed same count held e f = record {
-    answer = f ∙ ap₂ (checkedOf rows) count (e ∙ ap (λ (t : List Exchange). broughtFault (order .n) t (order .generators) brought coefficients) same ∙ unmet-second _ passed);
-    held = λ h. held;
+  pub checks-brought : {g rows : ℕ} {held : List Exchange} {group : List ℕ} {r : Checked} {found : Fault} → admission ≡ None → held ≡ table → g ≡ length table → group ≡ filled 0 groupSize (concat table)
+      → found ≡ broughtFault (order .n) held (order .generators) brought coefficients → r ≡ checkedOf rows g found → Checks rows groupSize table fault group r
+  checks-brought {g} {rows} {held} {group} {r} {found} passed same count holds e f = record {
+    answer = f ∙ ap₂ (checkedOf rows) count (e ∙ ap (λ (t : List Exchange). broughtFault (order .n) t (order .generators) brought coefficients) same ∙ unmet-second _ passed ∙ sym tests);
+    held = λ h. holds;
   }
-
-  -- all tests in their order
-  tests : fault ≡ firstFault (cellsFault (order .n) ∷ firstFault (checkSizeFault order brought coefficients groupSize ∷ later ∷ []) ∷ [])
-  unfolding checkFault rulesFault generatorsOf
-  tests =
-      sym (first-append (_ ∷ _ ∷ _ ∷ _ ∷ []) (_ ∷ []))
-      ∙ first-nested (cellsFault (order .n)) _
-      ∙ ap (λ (f : Fault). firstFault (cellsFault (order .n) ∷ f ∷ [])) (first-nested (checkSizeFault order brought coefficients groupSize) _
-      ∙ ap (λ (f : Fault). firstFault (checkSizeFault order brought coefficients groupSize ∷ f ∷ [])) (first-nested (orderFault order groupSize) _))
-
-  -- 5 is met; or 6 is; or neither
-  pub check-celled : (number place : ℕ) → cellsFault (order .n) ≡ At number place → fault ≡ At number place
-  check-celled number place e = tests ∙ sym (met-first number place _ e)
-
-  pub check-sized : (number place : ℕ) → cellsFault (order .n) ≡ None → checkSizeFault order brought coefficients groupSize ≡ At number place → fault ≡ At number place
-  check-sized number place e f = tests ∙ sym (unmet-second _ e) ∙ sym (met-first number place _ f)
-
-  pub check-later : cellsFault (order .n) ≡ None → checkSizeFault order brought coefficients groupSize ≡ None → later ≡ fault
-  check-later e f = sym (tests ∙ sym (unmet-second _ e) ∙ sym (unmet-second _ f))
 
   -- ---- the answer
   checked-refused : (f : Fault) {number place : ℕ} → checked.Refused number place ≡ checkedOf (length brought / order .n) (length table) f → f ≡ At number place

@@ -1,6 +1,6 @@
 -- How a List ends (Specification 3.5 and 7.4). Assumes nothing.
 use mathlib.Core.Path.{_≡_, refl, sym, _∙_, ap, ap₂, subst}
-use mathlib.Core.List.{List, [], _∷_}
+use mathlib.Core.List.{List, []}
 use Prim.Native.Nat.{ℕ}
 use native.Mathlib.Omega.{arith}
 use lib.IntN.{ℤ, pos}
@@ -10,11 +10,11 @@ use Rattle.definitions.specs.declared.Fault.{Fault}
 use Rattle.definitions.specs.declared.Fault.the-variants.{None, At}
 use Rattle.definitions.specs.Lists.{concat}
 use Rattle.definitions.specs.Group.{Exchange}
-use Rattle.definitions.specs.Lent.{Order, chunks, filled, numbersOf, tableOf, generatorsOf}
-use Rattle.definitions.specs.Refusals.{Outcome, accepted, refused, firstFault, unlessFault, cellsFault, listSizeFault, orderFault}
+use Rattle.definitions.specs.Lent.{Order, filled, generatorsOf, numbersOf, tableOf, wholeRows}
+use Rattle.definitions.specs.Refusals.{Outcome, accepted, refused, admissionFault, unlessFault}
 use Rattle.definitions.specs.Calls.{Listing, listing, listEnd, listCall}
 use Rattle.theory.proofs.Areas.{filled-nothing}
-use Rattle.theory.proofs.Faults.{accepted-refused, first-append, met-first, tests-none, unmet-first, unmet-second}
+use Rattle.theory.proofs.Faults.{accepted-refused}
 use Rattle.theory.proofs.ListCall.{list-kept}
 use Rattle.moves.specs.declared.Listed.{Listed}
 use Rattle.moves.specs.declared.Listed.the-variants as listed
@@ -54,31 +54,24 @@ finds-same {n} {listSize} {groupSize} {o} {o′} {list} {group} {r} e F = subst 
 pub finds-is : {n listSize groupSize : ℕ} {o : Outcome Listing} {list : List ℤ} {group : List ℕ} {r t : Listed} → Finds n listSize groupSize o list group r → r ≡ t → Finds n listSize groupSize o list group t
 finds-is {n} {listSize} {groupSize} {o} {list} {group} F e = subst (Finds n listSize groupSize o list group) e F
 
--- ---- 7 to 13, and 5 to 13
+-- ---- 5 to 13
 module _ (order : Order) (listSize groupSize : ℕ) where
-  abbrev fitting : Outcome Listing
-  fitting = unlessFault (orderFault order groupSize) (listingWith (order .n) listSize (tableOf order groupSize) (order .generators))
+  abbrev admission : Fault
+  admission = admissionFault order groupSize (wholeRows (order .n) listSize)
 
-  -- 7 to 11 are not met: what was found with the table in the group area
-  pub finds-order : (g : ℕ) {list : List ℤ} {group : List ℕ} {r : Listed} → length group ≡ groupSize → chunks (order .n) g group ≡ tableOf order groupSize → orderFault order groupSize ≡ None
-      → Finds (order .n) listSize (length group) (listingWith (order .n) listSize (chunks (order .n) g group) (order .generators)) list group r → Finds (order .n) listSize groupSize fitting list group r
-  finds-order g {list} {group} {r} long same passed F =
-      finds-same (ap (λ (t : List Exchange). listingWith (order .n) listSize t (order .generators)) same ∙ sym (unless-past _ passed))
-      (subst (λ (k : ℕ). Finds (order .n) listSize k (listingWith (order .n) listSize (chunks (order .n) g group) (order .generators)) list group r) long F)
-
-  -- 5 and 6 are not met
-  pub listing-sized : firstFault (cellsFault (order .n) ∷ listSizeFault order listSize groupSize ∷ []) ≡ None → fitting ≡ listing order listSize groupSize
-  unfolding listing generatorsOf
-  listing-sized e =
-      let h = tests-none _ _ e in
-      let k = tests-none _ _ (h .1) in
-      ap (λ (f : Fault). unlessFault f (listingWith (order .n) listSize (tableOf order groupSize) (order .generators)))
-      (unmet-second _ (k .0) ∙ unmet-first _ (h .0))
-
-  -- one of them is
-  pub listing-unsized : (number place : ℕ) → firstFault (cellsFault (order .n) ∷ listSizeFault order listSize groupSize ∷ []) ≡ At number place → listing order listSize groupSize ≡ refused number place
+  -- one of 5 to 11 is met
+  pub listing-unadmitted : (number place : ℕ) → admission ≡ At number place → listing order listSize groupSize ≡ refused number place
   unfolding listing
-  listing-unsized number place e = unless-at _ (first-append (_ ∷ _ ∷ []) (orderFault order groupSize ∷ []) ∙ sym (met-first number place _ e))
+  listing-unadmitted number place e = unless-at _ e
+
+  -- none is: what was found with the table in the group area
+  pub finds-admitted : {table : List Exchange} {list : List ℤ} {group : List ℕ} {r : Listed} → length group ≡ groupSize → table ≡ tableOf order groupSize → admission ≡ None
+      → Finds (order .n) listSize (length group) (listingWith (order .n) listSize table (order .generators)) list group r
+      → Finds (order .n) listSize groupSize (listing order listSize groupSize) list group r
+  unfolding listing generatorsOf
+  finds-admitted {table} {list} {group} {r} long same passed F =
+      finds-same (ap (λ (t : List Exchange). listingWith (order .n) listSize t (order .generators)) same ∙ sym (unless-past _ passed))
+      (subst (λ (k : ℕ). Finds (order .n) listSize k (listingWith (order .n) listSize table (order .generators)) list group r) long F)
 
   -- ---- the promise
   pub promise-refused : (number place : ℕ) → listing order listSize groupSize ≡ refused number place → {list′ : List ℤ} {group′ : List ℕ} → list′ ≡ filled (pos 0) listSize [] → group′ ≡ filled 0 groupSize []

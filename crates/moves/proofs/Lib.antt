@@ -1,5 +1,4 @@
 -- The proofs of the lent calls.
-pub mod Tests
 pub mod Tables
 pub mod Ends
 pub mod Steps

@@ -22,8 +22,8 @@ use Rattle.definitions.specs.Vector.{Vector, isZero, padded, within}
 use Rattle.definitions.specs.Group.{Exchange}
 use Rattle.definitions.specs.Completion.{Completion, completed, finalRows, running, stopped}
 use Rattle.definitions.specs.Split.{Image, Splitting, placedOrbits, splitting, written}
-use Rattle.definitions.specs.Lent.{Order, chunks, filled, generatorsOf, listRows, numbersOf, tableOf}
-use Rattle.definitions.specs.Refusals.{Outcome, accepted, refused, cellsFault, faultIf, faultWhere, firstFault, isPast, listSizeFault, orderFault, splitFault, splitSizeFault, unlessFault}
+use Rattle.definitions.specs.Lent.{Order, filled, generatorsOf, listRows, numbersOf, tableOf, wholeRows}
+use Rattle.definitions.specs.Refusals.{Outcome, accepted, refused, cellsFault, faultWhere, firstFault, isPast, splitFault, splitSizeFault, unlessFault}
 use Rattle.definitions.specs.Calls.{ListEnd, Listing, Parts, SplitEnd, listCall, listEnd, listing, listingOf, parts, partsOf, splitCall, splitEnd}
 use Rattle.definitions.proofs.Answer.{the-type}
 use Rattle.theory.proofs.Lists.{chunks-length}
@@ -32,32 +32,38 @@ use Rattle.theory.proofs.Bounds.{Within, each-within, within-each, within-more}
 use Rattle.theory.proofs.Areas.{filled-nothing}
 use Rattle.theory.proofs.Sizes.{sizes-of-split}
 use Rattle.theory.proofs.Faults.{accepted-refused, if-none, met-first, tests-none, unless-none, unmet-first}
-use Rattle.theory.proofs.Accepted.{cells-none, each-take, padded-within, past-where, zeros-within}
+use Rattle.theory.proofs.Accepted.{Admitted, admission-none, cells-none, each-take, padded-within, past-where, zeros-within}
 use Rattle.theory.proofs.Rows.{rows-count}
 use Rattle.theory.proofs.ListCall.{ListFacts, list-kept, listing-facts}
 use Rattle.theory.proofs.Held.{Narrow, held-room, held-rows, rows-narrow}
 use Rattle.theory.proofs.SplitCall.{split-exactly, split-facts, split-outside}
 use Rattle.vectors.specs.Bounds.{headroom}
-use Rattle.reduction.specs.Areas.{rowsAt}
+use Rattle.reduction.specs.declared.Shape.{Shape}
+use Rattle.reduction.specs.Areas.{rowsAt, sequencesIn}
 use Rattle.pieces.specs.declared.Taken.{Taken}
 use Rattle.pieces.specs.Taking.{Splits}
-use Rattle.moves.specs.Found.{Grouped, Held, SplitEnds, listingIn}
+use Rattle.moves.specs.declared.Numbers.{Numbers}
+use Rattle.moves.specs.Found.{Grouped, Held, SplitEnds, listingIn, piecesFault}
 use Rattle.moves.specs.Promise.{ListPromise, SplitAccepted, SplitPromise, SplitZero}
 use Rattle.moves.proofs.Tables.{held-grouped, held-table}
 
--- the same end by another name of its outcome
-pub ends-same : {n listSize groupSize piecesSize : ℕ} {o o′ : Outcome Parts} {answer : Answer} {list : List ℤ} {group : List ℕ} {pieces : List ℤ} → o ≡ o′
-    → SplitEnds n listSize groupSize piecesSize o answer list group pieces → SplitEnds n listSize groupSize piecesSize o′ answer list group pieces
-ends-same {n} {listSize} {groupSize} {piecesSize} {o} {o′} {answer} {list} {group} {pieces} e E =
-    subst (λ (x : Outcome Parts). SplitEnds n listSize groupSize piecesSize x answer list group pieces) e E
+-- the same end by another name
+pub ends-same : {due due′ : SplitEnd} {answer : Answer} {list : List ℤ} {group : List ℕ} {pieces : List ℤ} → due ≡ due′
+    → SplitEnds due answer list group pieces → SplitEnds due′ answer list group pieces
+ends-same {due} {due′} {answer} {list} {group} {pieces} e E = subst (λ (d : SplitEnd). SplitEnds d answer list group pieces) e E
 
--- .. and of its sizes
-pub ends-sized : {n listSize groupSize piecesSize listSize′ groupSize′ piecesSize′ : ℕ} (o : ℕ → Outcome Parts) {answer : Answer} {list : List ℤ} {group : List ℕ} {pieces : List ℤ} → listSize ≡ listSize′ → groupSize ≡ groupSize′ → piecesSize ≡ piecesSize′
-    → SplitEnds n listSize groupSize piecesSize (o piecesSize) answer list group pieces → SplitEnds n listSize′ groupSize′ piecesSize′ (o piecesSize′) answer list group pieces
-ends-sized {n} {listSize} {groupSize} {piecesSize} {listSize′} {groupSize′} {piecesSize′} o {answer} {list} {group} {pieces} a b c E =
-    subst (λ (k : ℕ). SplitEnds n k groupSize′ piecesSize′ (o piecesSize′) answer list group pieces) a
-    (subst (λ (k : ℕ). SplitEnds n listSize k piecesSize′ (o piecesSize′) answer list group pieces) b
-    (subst (λ (k : ℕ). SplitEnds n listSize groupSize k (o k) answer list group pieces) c E))
+-- by other names of the sizes
+pub sized-same : (n : ℕ) (o : ℕ → Outcome Parts) {listSize groupSize piecesSize listSize′ groupSize′ piecesSize′ : ℕ} → listSize ≡ listSize′ → groupSize ≡ groupSize′ → piecesSize ≡ piecesSize′
+    → splitEnd n listSize groupSize piecesSize (o piecesSize) ≡ splitEnd n listSize′ groupSize′ piecesSize′ (o piecesSize′)
+sized-same n o {listSize} {groupSize} {piecesSize} {listSize′} {groupSize′} {piecesSize′} a b c =
+    ap (λ (k : ℕ). splitEnd n k groupSize piecesSize (o piecesSize)) a
+    ∙ ap (λ (k : ℕ). splitEnd n listSize′ k piecesSize (o piecesSize)) b
+    ∙ ap (λ (k : ℕ). splitEnd n listSize′ groupSize′ k (o k)) c
+
+-- a refusal is the same for any number of cells
+pub refused-same : (n listSize groupSize piecesSize number place : ℕ) → splitEnd 0 listSize groupSize piecesSize (refused number place) ≡ splitEnd n listSize groupSize piecesSize (refused number place)
+unfolding splitEnd
+refused-same n listSize groupSize piecesSize number place = refl
 
 -- the vector to split, read from its area
 pub vector-read : (n : ℕ) (vector : List ℤ) → length vector ≡ n → padded (take n (drop 0 vector)) ≡ padded vector
@@ -75,29 +81,25 @@ vector-sized n vector piecesSize e =
     sizes-of-split n vector piecesSize (b .0)
 
 -- three areas were cleared
-pub ends-refused : {n listSize groupSize piecesSize number place : ℕ} {list : List ℤ} {group : List ℕ} {pieces : List ℤ} → list ≡ filled (pos 0) listSize [] → group ≡ filled 0 groupSize [] → pieces ≡ filled (pos 0) piecesSize []
-    → SplitEnds n listSize groupSize piecesSize (refused number place) (Refused number place) list group pieces
+pub ends-cleared : (listSize groupSize piecesSize : ℕ) {number place : ℕ} {list : List ℤ} {group : List ℕ} {pieces : List ℤ} → list ≡ filled (pos 0) listSize [] → group ≡ filled 0 groupSize [] → pieces ≡ filled (pos 0) piecesSize []
+    → SplitEnds (splitEnd 0 listSize groupSize piecesSize (refused number place)) (Refused number place) list group pieces
 unfolding splitEnd
-ends-refused p q r = record { answers = refl; listHolds = p; groupHolds = q; piecesHolds = r }
+ends-cleared listSize groupSize piecesSize p q r = record { answers = refl; listHolds = p; groupHolds = q; piecesHolds = r }
 
 -- zeros, by the size that an area has
 cleared : {A : Type 0} (blank : A) {xs : List A} (size : ℕ) → length xs ≡ size → xs ≡ replicate size blank → xs ≡ replicate (length xs) blank
 cleared blank size long e = e ∙ ap (λ (k : ℕ). replicate k blank) (sym long)
 
 -- what was tested before a listing was found, and its table
-record Tested (order : Order) (groupSize : ℕ) (found : Listing) : Type 0 where
-  cellsPass : cellsFault (order .n) ≡ None
-  orderPass : orderFault order groupSize ≡ None
+record Tested (order : Order) (listSize groupSize : ℕ) (found : Listing) : Type 0 where
+  admitted : Admitted order groupSize (wholeRows (order .n) listSize)
   tableIs : found .table ≡ tableOf order groupSize
 
-listing-tested : (order : Order) (listSize groupSize : ℕ) (found : Listing) → listing order listSize groupSize ≡ accepted found → Tested order groupSize found
+listing-tested : (order : Order) (listSize groupSize : ℕ) (found : Listing) → listing order listSize groupSize ≡ accepted found → Tested order listSize groupSize found
 unfolding listing listingOf
 listing-tested order listSize groupSize found e =
     let a = unless-none _ (listingOf (tableOf order groupSize) (completed (tableOf order groupSize) (listRows (order .n) listSize) (generatorsOf order))) e in
-    let b = tests-none (cellsFault (order .n)) _ (a .0) in
-    let c = tests-none (listSizeFault order listSize groupSize) _ (b .1) in
-    let d = tests-none (orderFault order groupSize) _ (c .1) in
-    record { cellsPass = b .0; orderPass = d .0; tableIs = go (completed (tableOf order groupSize) (listRows (order .n) listSize) (generatorsOf order)) (a .1) }
+    record { admitted = admission-none order groupSize _ (a .0); tableIs = go (completed (tableOf order groupSize) (listRows (order .n) listSize) (generatorsOf order)) (a .1) }
   where
     go : (c : Completion) → listingOf (tableOf order groupSize) c ≡ accepted found → found .table ≡ tableOf order groupSize
     go (stopped number place) x = accepted-refused x
@@ -141,7 +143,7 @@ module _ (order : Order) (vector : List ℤ) (listSize groupSize piecesSize : �
   parts-sized e = sym (ap (λ (f : Fault). unlessFault f (partsOf vector piecesSize (listing order listSize groupSize))) e)
 
   -- ---- the promise
-  module _ {answer : Answer} {list : List ℤ} {group : List ℕ} {pieces : List ℤ} (E : SplitEnds (order .n) listSize groupSize piecesSize outcome answer list group pieces)
+  module _ {answer : Answer} {list : List ℤ} {group : List ℕ} {pieces : List ℤ} (E : SplitEnds (splitEnd (order .n) listSize groupSize piecesSize outcome) answer list group pieces)
       (long : length list ≡ listSize) (wide : length group ≡ groupSize) (deep : length pieces ≡ piecesSize) where
     refused-is : (number place : ℕ) → (answer ≡ Refused number place) ↔ (outcome ≡ refused number place)
     unfolding splitEnd
@@ -201,25 +203,25 @@ module _ {order : Order} {listSize groupSize : ℕ} {answer : Answer} {list : Li
   n = order .n
 
   -- what was found, by the numbers of the answer
-  pub record Numbered (rows g stored sums : ℕ) : Type 0 where
+  pub record Numbered (numbers : Numbers) : Type 0 where
     pub found : Listing
     pub same : listing order listSize groupSize ≡ accepted found
-    pub rowsAre : rows ≡ length (found .rows)
-    pub orderIs : g ≡ length (found .table)
-    pub storedAre : stored ≡ found .stored
-    pub sumsAre : sums ≡ found .sums
+    pub rowsAre : numbers .rows ≡ length (found .rows)
+    pub membersAre : numbers .members ≡ length (found .table)
+    pub storedAre : numbers .stored ≡ found .stored
+    pub sumsAre : numbers .sums ≡ found .sums
 
-  pub listed : (rows g stored sums : ℕ) → answer ≡ Moves rows g stored sums → Numbered rows g stored sums
+  pub listed : (numbers : Numbers) → answer ≡ Moves (numbers .rows) (numbers .members) (numbers .stored) (numbers .sums) → Numbered numbers
   unfolding listCall listEnd
-  listed rows g stored sums e = go (listing order listSize groupSize) refl
+  listed numbers e = go (listing order listSize groupSize) refl
     where
-      go : (o : Outcome Listing) → listing order listSize groupSize ≡ o → Numbered rows g stored sums
+      go : (o : Outcome Listing) → listing order listSize groupSize ≡ o → Numbered numbers
       go (refused a b) q = let z : _≡_ {A = ℕ} 0 1 = cc (sym e ∙ P .answers ∙ ap (λ (o : Outcome Listing). listEnd n listSize groupSize o .answer) q) in absurd (omega (arith, z))
       go (accepted found) q =
           let h = sym e ∙ P .answers ∙ ap (λ (o : Outcome Listing). listEnd n listSize groupSize o .answer) q in
-          record { found = found; same = q; rowsAre = cc h; orderIs = cc h; storedAre = cc h; sumsAre = cc h }
+          record { found = found; same = q; rowsAre = cc h; membersAre = cc h; storedAre = cc h; sumsAre = cc h }
 
-  module _ {rows g stored sums : ℕ} (L : Numbered rows g stored sums) where
+  module _ {numbers : Numbers} (L : Numbered numbers) where
     abbrev found : Listing
     found = L .found
 
@@ -234,34 +236,37 @@ module _ {order : Order} {listSize groupSize : ℕ} {answer : Answer} {list : Li
     F : ListFacts order found
     F = listing-facts order listSize groupSize found (L .same)
 
-    T : Tested order groupSize found
+    T : Tested order listSize groupSize found
     T = listing-tested order listSize groupSize found (L .same)
 
     fits : n ≤ cells
-    fits = cells-none n (T .cellsPass) .most
+    fits = cells-none n (T .admitted .cellsPass) .most
 
     narrow : Each (Narrow n) (found .rows)
     narrow = rows-narrow order found F
 
-    rows-same : rowsAt n rows list ≡ found .rows
+    rows-same : rowsAt n (numbers .rows) list ≡ found .rows
     rows-same = ap (λ (k : ℕ). rowsAt n k list) (L .rowsAre) ∙ held-rows n fits (found .rows) narrow listSize list-holds
 
     held : group ≡ filled 0 groupSize (concat (tableOf order groupSize))
     held = group-holds ∙ ap (λ (t : List Exchange). filled 0 groupSize (concat t)) (T .tableIs)
 
-    count : g ≡ length (tableOf order groupSize)
-    count = L .orderIs ∙ ap length (T .tableIs)
+    count : numbers .members ≡ length (tableOf order groupSize)
+    count = L .membersAre ∙ ap length (T .tableIs)
 
-    table-same : chunks n g group ≡ found .table
-    table-same = held-table order group groupSize (T .cellsPass) (T .orderPass) held wide g count ∙ sym (T .tableIs)
+    abbrev shape : Shape
+    shape = record { n = n; g = numbers .members }
 
-    G : Grouped n g (order .generators) group
-    G = held-grouped order group groupSize (T .cellsPass) (T .orderPass) held wide g count
+    table-same : sequencesIn shape group ≡ found .table
+    table-same = held-table (T .admitted) held wide count ∙ sym (T .tableIs)
 
-    pub listed-held : Held n rows g list group
+    G : Grouped shape (order .generators) group
+    G = held-grouped (T .admitted) held wide count
+
+    pub listed-held : Held n numbers list group
     listed-held = record {
-      rowsOfTable = G .table;
-      order = G .few;
+      table = G .table;
+      small = G .small;
       area = record {
         holds = omega (arith, held-room n fits (found .rows) narrow listSize list-holds, ap (λ (k : ℕ). k * n) (L .rowsAre));
         limited = subst (λ (l : List ℤ). within headroom l ≡ true) (sym list-holds) (each-within headroom (filled-within n listSize (found .rows) (each-from (found .rows) [] (λ r l. within-more (omega arith) (within-each entryLimit (getD (found .rows) r []) (F .kept .limited r l))))));
@@ -272,22 +277,22 @@ module _ {order : Order} {listSize groupSize : ℕ} {answer : Answer} {list : Li
     }
 
     -- the listing was this one
-    pub listed-same : accepted (listingIn n rows g stored sums list group) ≡ listing order listSize groupSize
+    pub listed-same : accepted (listingIn n numbers list group) ≡ listing order listSize groupSize
     listed-same =
-        ap₂ (λ (l : List Vector) (t : List Exchange). accepted (record { rows = l; table = t; stored = stored; sums = sums })) rows-same table-same
+        ap₂ (λ (l : List Vector) (t : List Exchange). accepted (record { rows = l; table = t; stored = numbers .stored; sums = numbers .sums })) rows-same table-same
         ∙ ap₂ (λ (k m : ℕ). accepted (record { rows = found .rows; table = found .table; stored = k; sums = m })) (L .storedAre) (L .sumsAre) ∙ sym (L .same)
 
 -- the inner List was refused: its answer is that of the Split
-pub ends-unlisted : {order : Order} {listSize groupSize piecesSize : ℕ} {answer : Answer} {list : List ℤ} {group : List ℕ} {pieces : List ℤ} (vector : List ℤ) → ListPromise order listSize groupSize answer list group → OneOf (1 ∷ 2 ∷ 3 ∷ []) (tagOf the-type answer)
-    → pieces ≡ filled (pos 0) piecesSize [] → SplitEnds (order .n) listSize groupSize piecesSize (partsOf vector piecesSize (listing order listSize groupSize)) answer list group pieces
+pub ends-unlisted : {order : Order} {listSize groupSize : ℕ} (piecesSize : ℕ) {answer : Answer} {list : List ℤ} {group : List ℕ} {pieces : List ℤ} (vector : List ℤ) → ListPromise order listSize groupSize answer list group → OneOf (1 ∷ 2 ∷ 3 ∷ []) (tagOf the-type answer)
+    → pieces ≡ filled (pos 0) piecesSize [] → SplitEnds (splitEnd (order .n) listSize groupSize piecesSize (partsOf vector piecesSize (listing order listSize groupSize))) answer list group pieces
 unfolding listCall listEnd splitEnd partsOf
-ends-unlisted {order} {listSize} {groupSize} {piecesSize} {answer} {list} {group} {pieces} vector P other cleared = go (listing order listSize groupSize) refl
+ends-unlisted {order} {listSize} {groupSize} piecesSize {answer} {list} {group} {pieces} vector P other cleared = go (listing order listSize groupSize) refl
   where
     at : Outcome Listing → ListEnd
     at o = listEnd (order .n) listSize groupSize o
 
-    go : (o : Outcome Listing) → listing order listSize groupSize ≡ o → SplitEnds (order .n) listSize groupSize piecesSize (partsOf vector piecesSize (listing order listSize groupSize)) answer list group pieces
-    go (refused a b) q = ends-same (sym (ap (partsOf vector piecesSize) q)) (record {
+    go : (o : Outcome Listing) → listing order listSize groupSize ≡ o → SplitEnds (splitEnd (order .n) listSize groupSize piecesSize (partsOf vector piecesSize (listing order listSize groupSize))) answer list group pieces
+    go (refused a b) q = ends-same (sym (ap (λ (o : Outcome Listing). splitEnd (order .n) listSize groupSize piecesSize (partsOf vector piecesSize o)) q)) (record {
       answers = P .answers ∙ ap (λ (o : Outcome Listing). at o .answer) q;
       listHolds = P .listHolds ∙ ap (λ (o : Outcome Listing). at o .list) q;
       groupHolds = P .groupHolds ∙ ap (λ (o : Outcome Listing). at o .group) q;
@@ -299,12 +304,12 @@ ends-unlisted {order} {listSize} {groupSize} {piecesSize} {answer} {list} {group
         not-moves h = ⊎-elim (λ e. omega arith) (λ r. ⊎-elim (λ e. omega arith) (λ e. omega arith) r) h
 
 -- ---- 14 to 16 with a listing in its areas
-module _ (n rows g stored sums : ℕ) (list : List ℤ) (group : List ℕ) (vector : List ℤ) (piecesSize : ℕ) where
+module _ (n : ℕ) (numbers : Numbers) (list : List ℤ) (group : List ℕ) (vector : List ℤ) (piecesSize : ℕ) where
   abbrev pub atHand : Listing
-  atHand = listingIn n rows g stored sums list group
+  atHand = listingIn n numbers list group
 
   abbrev pub images : List Image
-  images = placedOrbits 0 (chunks n g group) (rowsAt n rows list)
+  images = placedOrbits 0 (atHand .table) (atHand .rows)
 
   abbrev pub taken : Splitting
   taken = splitting images (padded vector)
@@ -315,7 +320,7 @@ module _ (n rows g stored sums : ℕ) (list : List ℤ) (group : List ℕ) (vect
   parts-past number place e = ap (λ (f : Fault). unlessFault f (accepted (record { listing = atHand; pieces = taken .pieces }))) (sym (met-first number place _ e))
 
   module _ {v : Vector} {area : List ℤ} {t : Taken} {fault : Fault} (S : Splits images v piecesSize area t) (same : v ≡ padded vector) (passed : faultWhere 14 (length vector) (λ p. isPast splitLimit (getD vector p (pos 0))) ≡ None)
-      (came : fault ≡ firstFault (faultIf 15 (not (isZero (t .rest))) ∷ faultIf 16 (not (leb (t .count) (piecesSize / pieceWidth))) ∷ [])) where
+      (came : fault ≡ piecesFault (t .rest) (t .count) piecesSize) where
     rest-is : t .rest ≡ taken .rest
     rest-is = S .rest ∙ ap (λ (w : Vector). splitting images w .rest) same
 
@@ -324,7 +329,7 @@ module _ (n rows g stored sums : ℕ) (list : List ℤ) (group : List ℕ) (vect
 
     fault-is : splitFault vector piecesSize taken ≡ fault
     unfolding splitFault
-    fault-is = sym (unmet-first _ passed) ∙ sym (came ∙ ap₂ (λ (w : Vector) (k : ℕ). firstFault (faultIf 15 (not (isZero w)) ∷ faultIf 16 (not (leb k (piecesSize / pieceWidth))) ∷ [])) rest-is count-is)
+    fault-is = sym (unmet-first _ passed) ∙ sym (came ∙ ap₂ (λ (w : Vector) (k : ℕ). piecesFault w k piecesSize) rest-is count-is)
 
     -- 15 or 16 is met
     pub parts-met : (number place : ℕ) → fault ≡ At number place → partsOf vector piecesSize (accepted atHand) ≡ refused number place
@@ -332,14 +337,16 @@ module _ (n rows g stored sums : ℕ) (list : List ℤ) (group : List ℕ) (vect
     parts-met number place e = ap (λ (f : Fault). unlessFault f (accepted (record { listing = atHand; pieces = taken .pieces }))) (fault-is ∙ e)
 
     -- neither is
-    pub ends-taken : {listSize groupSize : ℕ} → list ≡ filled (pos 0) listSize (numbersOf n (rowsAt n rows list)) → group ≡ filled 0 groupSize (concat (chunks n g group)) → fault ≡ None
-        → SplitEnds n listSize groupSize piecesSize (partsOf vector piecesSize (accepted atHand)) (Split (t .count) rows g stored sums) list group area
+    pub ends-taken : (listSize groupSize : ℕ) → list ≡ filled (pos 0) listSize (numbersOf n (atHand .rows)) → group ≡ filled 0 groupSize (concat (atHand .table)) → fault ≡ None
+        → SplitEnds (splitEnd n listSize groupSize piecesSize (partsOf vector piecesSize (accepted atHand))) (Split (t .count) (numbers .rows) (numbers .members) (numbers .stored) (numbers .sums)) list group area
     unfolding partsOf unlessFault splitEnd
-    ends-taken a b e =
+    ends-taken listSize groupSize a b e =
         let roomy = tests-none _ _ (tests-none _ _ (sym came ∙ e) .1) .0 in
         let fits = leb-true (t .count) (piecesSize / pieceWidth) (not-false (leb (t .count) (piecesSize / pieceWidth)) (if-none 16 _ roomy)) in
-        ends-same (sym (ap (λ (f : Fault). unlessFault f (accepted (record { listing = atHand; pieces = taken .pieces }))) (fault-is ∙ e))) (record {
-          answers = ap (λ (k : ℕ). Split k rows g stored sums) count-is ∙ ap₂ (λ (x y : ℕ). Split (length (taken .pieces)) x y stored sums) (sym (rows-count n rows list)) (sym (chunks-length n g group));
+        ends-same (sym (ap (λ (f : Fault). splitEnd n listSize groupSize piecesSize (unlessFault f (accepted (record { listing = atHand; pieces = taken .pieces })))) (fault-is ∙ e))) (record {
+          answers =
+              ap (λ (k : ℕ). Split k (numbers .rows) (numbers .members) (numbers .stored) (numbers .sums)) count-is
+              ∙ ap₂ (λ (x y : ℕ). Split (length (taken .pieces)) x y (numbers .stored) (numbers .sums)) (sym (rows-count n (numbers .rows) list)) (sym (chunks-length n (numbers .members) group));
           listHolds = a;
           groupHolds = b;
           piecesHolds = S .held fits ∙ ap (λ (w : Vector). filled (pos 0) piecesSize (concat (map written (splitting images w .pieces)))) same;

@@ -12,7 +12,7 @@ use Rattle.definitions.specs.Lists.{concat}
 use Rattle.definitions.specs.Vector.{Vector, within}
 use Rattle.definitions.specs.Group.{Exchange}
 use Rattle.definitions.specs.Completion.{completed, finalRows, running}
-use Rattle.definitions.specs.Lent.{chunks, filled, vectorsOf, numbersOf, listRows}
+use Rattle.definitions.specs.Lent.{filled, vectorsOf, numbersOf, listRows}
 use Rattle.definitions.specs.Refusals.{accepted}
 use Rattle.definitions.specs.Calls.{Listing, listingOf}
 use Rattle.theory.proofs.Lists.{chunks-length}
@@ -22,18 +22,23 @@ use Rattle.theory.proofs.Accepted.{zeros-within}
 use Rattle.theory.proofs.Completion.{Sound, completed-sound}
 use Rattle.theory.proofs.Rows.{rows-count}
 use Rattle.vectors.specs.Bounds.{headroom}
-use Rattle.reduction.specs.Areas.{rowsAt}
+use Rattle.admission.proofs.Tests.{rows-inside}
+use Rattle.reduction.specs.declared.Shape.{Shape}
+use Rattle.reduction.specs.Areas.{Area, rowsAt, sequencesIn}
 use Rattle.completion.specs.declared.State.{State}
 use Rattle.completion.specs.declared.Completion.the-variants as case
-use Rattle.completion.specs.Machine.{stateIn, Areas, After}
+use Rattle.completion.specs.Machine.{stateIn, sizesOf, completedIn, Areas, After}
+use Rattle.sorting.specs.Marks.{Finished}
 use Rattle.moves.specs.declared.Listed.the-variants as listed
 use Rattle.moves.specs.Found.{Grouped, listingWith, listedOf, Finds}
-use Rattle.moves.proofs.Tables.{rows-inside}
 use Rattle.moves.proofs.Ends.{finds-refused}
 
-module _ {n g : ℕ} {generators : List ℤ} {group : List ℕ} (G : Grouped n g generators group) (listSize limit : ℕ) (rows : limit ≡ listRows n listSize) where
+module _ {shape : Shape} {generators : List ℤ} {group : List ℕ} (G : Grouped shape generators group) (listSize limit : ℕ) (rows : limit ≡ listRows (shape .n) listSize) where
+  abbrev n : ℕ
+  n = shape .n
+
   abbrev table : List Exchange
-  table = chunks n g group
+  table = sequencesIn shape group
 
   pub few : limit ≤ listLimit
   unfolding listRows
@@ -44,57 +49,62 @@ module _ {n g : ℕ} {generators : List ℤ} {group : List ℕ} (G : Grouped n g
   inside = subst (λ (k : ℕ). k * n ≤ listSize) (sym rows) (rows-inside listLimit n listSize)
 
   -- a cleared list area, and marks for all images
-  pub cleared-areas : {list : List ℤ} {marks : List ℕ} → list ≡ filled (pos 0) listSize [] → listLimit * groupLimit ≤ length marks → Areas n g limit group list marks
+  pub cleared-areas : {list : List ℤ} {marks : List ℕ} → list ≡ filled (pos 0) listSize [] → listLimit * groupLimit ≤ length marks → Areas (sizesOf shape limit) group list marks
   cleared-areas {list} {marks} e m =
       let h : 0 ≤ listSize = omega arith in
       record {
-        rowsOfTable = G .table;
+        isTable = G .table;
         some = G .some;
-        room = omega (arith, inside, ap length e, length-filled (pos 0) listSize [] h);
-        marksRoom = omega (arith, mul-le-mul few (G .few), m);
-        limited = subst (λ (l : List ℤ). within headroom l ≡ true) (sym (e ∙ filled-nothing (pos 0) listSize)) (each-within headroom (zeros-within headroom listSize));
-        order = G .few;
+        small = G .small;
         rows = few;
+        room = omega (arith, inside, ap length e, length-filled (pos 0) listSize [] h);
+        marksRoom = omega (arith, mul-le-mul few (G .small), m);
+        limited = subst (λ (l : List ℤ). within headroom l ≡ true) (sym (e ∙ filled-nothing (pos 0) listSize)) (each-within headroom (zeros-within headroom listSize));
       }
 
-  module _ {list list′ : List ℤ} {marks marks′ : List ℕ} where
+  module _ {list : List ℤ} {marks : List ℕ} where
     -- the completion was turned down
-    pub steps-stopped : (number place : ℕ) {groupSize : ℕ} → After n g group list list′ marks marks′ (completed table limit (vectorsOf n generators)) (case.Stopped number place)
-        → Finds n listSize groupSize (listingWith n listSize table generators) list′ group (listed.Refused number place)
+    pub steps-stopped : (number place : ℕ) {groupSize : ℕ} → After shape group list marks (completedIn (sizesOf shape limit) group generators) (case.Stopped number place)
+        → Finds n listSize groupSize (listingWith n listSize table generators) list group (listed.Refused number place)
     unfolding listingOf
     steps-stopped number place A =
         finds-refused (sym (ap (listingOf table) (A .answer ∙ ap (λ (k : ℕ). completed table k (vectorsOf n generators)) rows)))
 
-    module _ (s : State) (A : After n g group list list′ marks marks′ (completed table limit (vectorsOf n generators)) (case.Running s)) where
-      sound : Sound (G .ordered .symmetric) limit (running (stateIn n list′ s))
-      sound = subst (Sound (G .ordered .symmetric) limit) (sym (A .answer)) (completed-sound (G .ordered .symmetric) (G .ordered .nonzero) (G .ordered .entries) limit)
+    module _ (s : State) (A : After shape group list marks (completedIn (sizesOf shape limit) group generators) (case.Running s)) (long : length list ≡ listSize) where
+      sound : Sound (G .admissible .symmetric) limit (running (stateIn n list s))
+      sound = subst (Sound (G .admissible .symmetric) limit) (sym (A .answer)) (completed-sound (G .admissible .symmetric) (G .admissible .nonzero) (G .admissible .entries) limit)
 
       pub stored-few : s .stored ≤ limit
-      stored-few = omega (arith, sound .1 .rowsIn, rows-count n (s .stored) list′)
+      stored-few = omega (arith, sound .1 .rowsIn, rows-count n (s .stored) list)
 
-      pub stored-inside : length list′ ≡ listSize → s .stored * n ≤ length list′
-      stored-inside long = omega (arith, mul-le-mul-right {m = s .stored} {n = limit} n stored-few, inside, long)
+      pub stored-area : Area n (s .stored) list
+      stored-area = record {
+        holds = omega (arith, mul-le-mul-right {m = s .stored} {n = limit} n stored-few, inside, long);
+        limited = A .held .limited;
+      }
 
       -- and then step 5
-      pub steps-ended : {list″ : List ℤ} (count : ℕ) → list″ ≡ filled (pos 0) (length list′) (numbersOf n (finalRows table (rowsAt n (s .stored) list′))) → count ≡ length (finalRows table (rowsAt n (s .stored) list′)) → length list′ ≡ listSize
-          → Finds n listSize (length group) (listingWith n listSize table generators) list″ group (listed.Found count g (s .stored) (s .sums))
+      pub steps-ended : {final : List ℤ} (count : ℕ) → Finished shape (s .stored) group list final count
+          → Finds n listSize (length group) (listingWith n listSize table generators) final group (listed.Found count (shape .g) (s .stored) (s .sums))
       unfolding listingOf
-      steps-ended {list″} count e c long = record {
-        answer = ap₂ (λ (a b : ℕ). listed.Found a b (s .stored) (s .sums)) c (sym (chunks-length n g group)) ∙ ap (λ (k : ℕ). listed.Found (length final) (length table) k (s .sums)) (sym (rows-count n (s .stored) list′)) ∙ ap listedOf (sym found-is);
-        listHolds = λ found h. e ∙ ap₂ (λ (k : ℕ) (l : List Vector). filled (pos 0) k (numbersOf n l)) long (ap-rows found h);
+      steps-ended {final} count F = record {
+        answer =
+            ap₂ (λ (a b : ℕ). listed.Found a b (s .stored) (s .sums)) (F .counted) (sym (chunks-length n (shape .g) group))
+            ∙ ap (λ (k : ℕ). listed.Found (length kept) (length table) k (s .sums)) (sym (rows-count n (s .stored) list)) ∙ ap listedOf (sym found-is);
+        listHolds = λ found h. F .lies ∙ ap₂ (λ (k : ℕ) (l : List Vector). filled (pos 0) k (numbersOf n l)) long (ap-rows found h);
         groupHolds = λ found h. G .held ∙ ap (λ (t : List Exchange). filled 0 (length group) (concat t)) (ap-table found h);
       }
         where
-          final : List Vector
-          final = finalRows table (rowsAt n (s .stored) list′)
+          kept : List Vector
+          kept = finalRows table (rowsAt n (s .stored) list)
 
           ended : Listing
-          ended = record { rows = final; table = table; stored = length (rowsAt n (s .stored) list′); sums = s .sums }
+          ended = record { rows = kept; table = table; stored = length (rowsAt n (s .stored) list); sums = s .sums }
 
           found-is : listingWith n listSize table generators ≡ accepted ended
           found-is = sym (ap (listingOf table) (A .answer ∙ ap (λ (k : ℕ). completed table k (vectorsOf n generators)) rows))
 
-          ap-rows : (found : Listing) → listingWith n listSize table generators ≡ accepted found → final ≡ found .rows
+          ap-rows : (found : Listing) → listingWith n listSize table generators ≡ accepted found → kept ≡ found .rows
           ap-rows found h = let y : ended ≡ found = cc (sym found-is ∙ h) in ap (λ (f : Listing). f .rows) y
 
           ap-table : (found : Listing) → listingWith n listSize table generators ≡ accepted found → table ≡ found .table

@@ -9,98 +9,91 @@ use lib.ListN.{length, getD}
 use Rattle.definitions.specs.declared.Answer.{Answer}
 use Rattle.definitions.specs.declared.Fault.{Fault}
 use Rattle.definitions.specs.declared.Fault.the-variants.{None, At}
-use Rattle.definitions.specs.Limits.{entryLimit, generatorLimit, groupLimit, listLimit}
+use Rattle.definitions.specs.Limits.{entryLimit, generatorLimit, groupLimit, listLimit, pieceWidth, splitLimit}
 use Rattle.definitions.specs.Lists.{concat}
-use Rattle.definitions.specs.Vector.{isZero}
-use Rattle.definitions.specs.Group.{Exchange, isExchange, groupTable}
+use Rattle.definitions.specs.Vector.{Vector, isZero, within}
+use Rattle.definitions.specs.Group.{Exchange}
 use Rattle.definitions.specs.Completion.{completed, sumCount}
-use Rattle.definitions.specs.Lent.{Order, chunks, filled, rowsOf, vectorsOf, numbersOf, listRows, wholeRows}
-use Rattle.definitions.specs.Refusals.{Outcome, accepted, refused, firstFault, faultIf, faultWhere, isPast, leavesGenerators, rowsFault, wholenessFault}
-use Rattle.definitions.specs.Calls.{Listing, Parts, listingOf, splitEnd}
-use Rattle.reduction.specs.Areas.{rowsAt, Area, Table}
-use Rattle.completion.specs.Machine.{Ordered}
-use Rattle.moves.specs.declared.Tested.{Tested}
-use Rattle.moves.specs.declared.Tested.the-variants as tested
+use Rattle.definitions.specs.Lent.{filled, vectorsOf, numbersOf, listRows, wholeRows}
+use Rattle.definitions.specs.Refusals.{Outcome, accepted, refused, firstFault, faultIf, faultWhere, isPast}
+use Rattle.definitions.specs.Refusals.{rowsFault, wholenessFault}
+use Rattle.definitions.specs.Calls.{Listing, SplitEnd, listingOf}
+use Rattle.reduction.specs.declared.Shape.{Shape}
+use Rattle.reduction.specs.Areas.{rowsAt, sequencesIn, Area, Table}
+use Rattle.completion.specs.Machine.{Admissible}
 use Rattle.moves.specs.declared.Listed.{Listed}
 use Rattle.moves.specs.declared.Listed.the-variants as listed
+use Rattle.moves.specs.declared.Numbers.{Numbers}
 use Rattle.moves.specs.declared.Checked.{Checked}
 use Rattle.moves.specs.declared.Checked.the-variants as checked
 
--- 7 and 8
-abbrev pub generatorsFault : (n : ℕ) (generators : List ℤ) → Fault
-generatorsFault n generators =
-    firstFault
-    (faultWhere 7 (length generators) (λ p. isPast entryLimit (getD generators p (pos 0)))
-    ∷ faultWhere 8 (length (vectorsOf n generators)) (λ p. isZero (getD (vectorsOf n generators) p []))
-    ∷ [])
-
--- 9 to 11, where at most `limit` group rows are held
-abbrev pub groupFault : (n limit : ℕ) (generators : List ℤ) (exchanges : List ℕ) → Fault
-groupFault n limit generators exchanges =
-    firstFault
-    (faultWhere 9 (length (rowsOf n exchanges)) (λ p. not (isExchange n (getD (rowsOf n exchanges) p [])))
-    ∷ faultIf 10 (not (leb (length (groupTable n (rowsOf n exchanges) limit)) limit))
-    ∷ faultWhere 11 (length (vectorsOf n generators)) (λ p. leavesGenerators (vectorsOf n generators) (rowsOf n exchanges) (getD (vectorsOf n generators) p []))
-    ∷ [])
-
--- the order of the group, unless a test was met
-abbrev pub testedOf : Fault → (g : ℕ) → Tested
-testedOf None g = tested.Order g
-testedOf (At number place) g = tested.Refused number place
-
--- the tests came to `fault`; where none was met, the area holds the table, and zeros behind
-pub record Tabled (size : ℕ) (fault : Fault) (table : List Exchange) (group : List ℕ) (r : Tested) : Type 0 where
-  pub answer : r ≡ testedOf fault (length table)
-  pub held : fault ≡ None → group ≡ filled 0 size (concat table)
-
--- a group area that holds a table of g rows which keeps the lattice of the generators
-pub record Grouped (n g : ℕ) (generators : List ℤ) (group : List ℕ) : Type 0 where
-  pub table : Table n g group
-  pub some : 0 < g
-  pub few : g ≤ groupLimit
-  pub ordered : Ordered n g group generators
-  pub held : group ≡ filled 0 (length group) (concat (chunks n g group))
+-- a group area that holds a table which keeps the lattice of the generators
+pub record Grouped (shape : Shape) (generators : List ℤ) (group : List ℕ) : Type 0 where
+  pub table : Table shape group
+  pub some : 0 < shape .g
+  pub small : shape .g ≤ groupLimit
+  pub admissible : Admissible shape group generators
+  pub held : group ≡ filled 0 (length group) (concat (sequencesIn shape group))
 
 -- what is listed with a table
 abbrev pub listingWith : (n listSize : ℕ) (table : List Exchange) (generators : List ℤ) → Outcome Listing
-listingWith n listSize table generators = listingOf table (completed table (listRows n listSize) (vectorsOf n generators))
+listingWith n listSize table generators =
+    listingOf table (completed table (listRows n listSize) (vectorsOf n generators))
 
 -- an outcome in numbers
 abbrev pub listedOf : Outcome Listing → Listed
 listedOf (refused number place) = listed.Refused number place
-listedOf (accepted found) = listed.Found (length (found .rows)) (length (found .table)) (found .stored) (found .sums)
+listedOf (accepted found) =
+    listed.Found (length (found .rows)) (length (found .table)) (found .stored) (found .sums)
 
 -- the outcome `o` was found, and the areas hold it where it was accepted
-pub record Finds (n listSize groupSize : ℕ) (o : Outcome Listing) (list : List ℤ) (group : List ℕ) (r : Listed) : Type 0 where
+pub record Finds (n listSize groupSize : ℕ) (o : Outcome Listing) (list : List ℤ) (group : List ℕ) (r : Listed)
+    : Type 0 where
   pub answer : r ≡ listedOf o
   pub listHolds : (found : Listing) → o ≡ accepted found → list ≡ filled (pos 0) listSize (numbersOf n (found .rows))
   pub groupHolds : (found : Listing) → o ≡ accepted found → group ≡ filled 0 groupSize (concat (found .table))
 
 -- ---- Split
 
--- list and group areas that hold k rows and a table of g exchanges, with zeros behind
-pub record Held (n k g : ℕ) (list : List ℤ) (group : List ℕ) : Type 0 where
-  pub rowsOfTable : Table n g group
-  pub order : g ≤ groupLimit
-  pub area : Area n k list
-  pub few : k ≤ listLimit
-  pub listHeld : list ≡ filled (pos 0) (length list) (numbersOf n (rowsAt n k list))
-  pub groupHeld : group ≡ filled 0 (length group) (concat (chunks n g group))
+-- list and group areas that hold a list and a table of these numbers, with zeros behind
+pub record Held (n : ℕ) (found : Numbers) (list : List ℤ) (group : List ℕ) : Type 0 where
+  pub table : Table (record { n = n; g = found .members }) group
+  pub small : found .members ≤ groupLimit
+  pub area : Area n (found .rows) list
+  pub few : found .rows ≤ listLimit
+  pub listHeld : list ≡ filled (pos 0) (length list) (numbersOf n (rowsAt n (found .rows) list))
+  pub groupHeld : group ≡ filled 0 (length group) (concat (sequencesIn (record { n = n; g = found .members }) group))
 
 -- the listing that such areas hold
-abbrev pub listingIn : (n k g stored sums : ℕ) (list : List ℤ) (group : List ℕ) → Listing
-listingIn n k g stored sums list group = record { rows = rowsAt n k list; table = chunks n g group; stored = stored; sums = sums }
+abbrev pub listingIn : (n : ℕ) → Numbers → (list : List ℤ) (group : List ℕ) → Listing
+listingIn n found list group = record {
+  rows = rowsAt n (found .rows) list;
+  table = sequencesIn (record { n = n; g = found .members }) group;
+  stored = found .stored;
+  sums = found .sums;
+}
 
--- a Split ended with this outcome: its answer and its areas
-pub record SplitEnds (n listSize groupSize piecesSize : ℕ) (o : Outcome Parts) (answer : Answer) (list : List ℤ) (group : List ℕ) (pieces : List ℤ) : Type 0 where
-  pub answers : answer ≡ splitEnd n listSize groupSize piecesSize o .answer
-  pub listHolds : list ≡ splitEnd n listSize groupSize piecesSize o .list
-  pub groupHolds : group ≡ splitEnd n listSize groupSize piecesSize o .group
-  pub piecesHolds : pieces ≡ splitEnd n listSize groupSize piecesSize o .pieces
+-- a vector of n numbers that meets no 14
+pub record Entered (n : ℕ) (vector : List ℤ) : Type 0 where
+  pub sized : length vector ≡ n
+  pub entries : faultWhere 14 (length vector) (λ p. isPast splitLimit (getD vector p (pos 0))) ≡ None
+
+-- 15 and 16, of what remains and the number of pieces, in an area of `size` numbers
+abbrev pub piecesFault : (rest : Vector) (count size : ℕ) → Fault
+piecesFault rest count size =
+    firstFault (faultIf 15 (not (isZero rest)) ∷ faultIf 16 (not (leb count (size / pieceWidth))) ∷ [])
+
+-- a Split ended as was due: its answer and its areas
+pub record SplitEnds (due : SplitEnd) (answer : Answer) (list : List ℤ) (group : List ℕ) (pieces : List ℤ)
+    : Type 0 where
+  pub answers : answer ≡ due .answer
+  pub listHolds : list ≡ due .list
+  pub groupHolds : group ≡ due .group
+  pub piecesHolds : pieces ≡ due .pieces
 
 -- ---- Check
 
--- a pass of so many rows by a group of order g, unless a test was met
+-- a pass of so many rows by a group of g members, unless a test was met
 abbrev pub checkedOf : (rows g : ℕ) → Fault → Checked
 checkedOf rows g None = checked.Passed rows (sumCount g rows)
 checkedOf rows g (At number place) = checked.Refused number place
@@ -113,11 +106,12 @@ broughtFault n table generators rows coefficients =
     ∷ wholenessFault table (vectorsOf n generators) (vectorsOf n rows)
     ∷ [])
 
--- brought rows and coefficients in the right numbers
+-- generators within the limit, and brought rows and coefficients in the right numbers
 pub record Sized (n : ℕ) (generators rows coefficients : List ℤ) : Type 0 where
+  pub limited : within entryLimit generators ≡ true
+  pub generatorsFew : length generators / n ≤ generatorLimit
   pub whole : wholeRows n (length rows) ≡ true
   pub few : length rows / n ≤ listLimit
-  pub generatorsFew : length generators / n ≤ generatorLimit
   pub oneEach : length coefficients ≡ length rows / n * (length generators / n)
 
 -- the tests came to `fault`; where none was met, the area holds the table, and zeros behind

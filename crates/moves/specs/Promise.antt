@@ -35,7 +35,8 @@ pub record ListZero (list : List ℤ) (group : List ℕ) : Type 0 where
   pub groupHolds : group ≡ replicate (length group) 0
 
 -- the answer and both areas by the definition; and what a reader may conclude from an answer
-pub record ListPromise (order : Order) (listSize groupSize : ℕ) (answer : Answer) (list : List ℤ) (group : List ℕ) : Type 0 where
+pub record ListPromise (order : Order) (listSize groupSize : ℕ) (answer : Answer) (list : List ℤ) (group : List ℕ)
+    : Type 0 where
   pub answers : answer ≡ listCall order listSize groupSize .answer
   pub listHolds : list ≡ listCall order listSize groupSize .list
   pub groupHolds : group ≡ listCall order listSize groupSize .group
@@ -44,13 +45,17 @@ pub record ListPromise (order : Order) (listSize groupSize : ℕ) (answer : Answ
 
 -- ---- Split
 
--- demand 2: the pieces area holds pieces of a whole list that add up to the vector, none opposing it; the other areas hold the list and the table
-pub record SplitAccepted (order : Order) (vector : List ℤ) (answer : Answer) (list : List ℤ) (group : List ℕ) (pieces : List ℤ) : Type 0 where
+-- demand 2: the pieces area holds pieces of a whole list that add up to the vector, none opposing it; the other areas
+-- hold the list and the table
+pub record SplitAccepted (order : Order) (vector : List ℤ) (answer : Answer) (list : List ℤ) (group : List ℕ)
+    (pieces : List ℤ) : Type 0 where
   pub found : Parts
   pub listKept : ListKept order (found .listing)
   pub kept : SplitKept (found .listing .table) (found .listing .rows) (padded vector) (found .pieces)
   pub inLattice : InLattice (generatorsOf order) (padded vector)
-  pub says : answer ≡ Split (length (found .pieces)) (length (found .listing .rows)) (length (found .listing .table)) (found .listing .stored) (found .listing .sums)
+  pub says : answer
+      ≡ Split (length (found .pieces)) (length (found .listing .rows)) (length (found .listing .table))
+      (found .listing .stored) (found .listing .sums)
   pub listHolds : list ≡ filled (pos 0) (length list) (numbersOf (order .n) (found .listing .rows))
   pub groupHolds : group ≡ filled 0 (length group) (concat (found .listing .table))
   pub piecesHolds : pieces ≡ filled (pos 0) (length pieces) (concat (map written (found .pieces)))
@@ -68,34 +73,53 @@ pub record PastEntries (order : Order) (vector : List ℤ) (listSize groupSize p
   pub listed : listing order listSize groupSize ≡ accepted found
   pub entries : faultWhere 14 (length vector) (λ p. isPast splitLimit (getD vector p (pos 0))) ≡ None
 
--- the answer and the three areas by the definition; what a reader may conclude from an answer; and 15 exactly where the vector is not in the lattice
-pub record SplitPromise (order : Order) (vector : List ℤ) (listSize groupSize piecesSize : ℕ) (answer : Answer) (list : List ℤ) (group : List ℕ) (pieces : List ℤ) : Type 0 where
+-- the answer and the three areas by the definition; what a reader may conclude from an answer; and 15 exactly where
+-- the vector is not in the lattice
+pub record SplitPromise (order : Order) (vector : List ℤ) (listSize groupSize piecesSize : ℕ) (answer : Answer)
+    (list : List ℤ) (group : List ℕ) (pieces : List ℤ) : Type 0 where
   pub answers : answer ≡ splitCall order vector listSize groupSize piecesSize .answer
   pub listHolds : list ≡ splitCall order vector listSize groupSize piecesSize .list
   pub groupHolds : group ≡ splitCall order vector listSize groupSize piecesSize .group
   pub piecesHolds : pieces ≡ splitCall order vector listSize groupSize piecesSize .pieces
-  pub accepted : (count rows g stored sums : ℕ) → answer ≡ Split count rows g stored sums → SplitAccepted order vector answer list group pieces
+  pub accepted : (count rows g stored sums : ℕ) → answer ≡ Split count rows g stored sums
+      → SplitAccepted order vector answer list group pieces
   pub refused : (number place : ℕ) → answer ≡ Refused number place → SplitZero list group pieces
   pub outside : answer ≡ Refused 15 0 → ¬ (InLattice (generatorsOf order) (padded vector))
-  pub exactly : PastEntries order vector listSize groupSize piecesSize → (answer ≡ Refused 15 0) ↔ (¬ (InLattice (generatorsOf order) (padded vector)))
+  pub exactly : PastEntries order vector listSize groupSize piecesSize
+      → (answer ≡ Refused 15 0) ↔ (¬ (InLattice (generatorsOf order) (padded vector)))
 
 -- ---- Check
 
+-- the brought list is whole
+abbrev pub WholeFor : (order : Order) (rows : List ℤ) → Type 0
+WholeFor order rows = Whole (order .n) (exchangesOf order) (generatorsOf order) (vectorsOf (order .n) rows)
+
+-- a pass of r rows, with g × r × (r + 1) sums
+abbrev pub passOf : (order : Order) (rows : List ℤ) (groupSize : ℕ) → Answer
+passOf order rows groupSize =
+    let count = length (vectorsOf (order .n) rows) in
+    Passed count (sumCount (length (tableOf order groupSize)) count)
+
 -- a pass of so many rows and sums
-pub record CheckPassed (order : Order) (rows coefficients : List ℤ) (groupSize : ℕ) (group : List ℕ) (count sums : ℕ) : Type 0 where
+pub record CheckPassed (order : Order) (rows coefficients : List ℤ) (groupSize : ℕ) (group : List ℕ) (count sums : ℕ)
+    : Type 0 where
   pub kept : RulesKept order rows coefficients groupSize
-  pub whole : Whole (order .n) (exchangesOf order) (generatorsOf order) (vectorsOf (order .n) rows)
+  pub whole : WholeFor order rows
   pub table : IsTable (order .n) (exchangesOf order) (tableOf order groupSize)
   pub groupHolds : group ≡ filled 0 groupSize (concat (tableOf order groupSize))
   pub rowsAre : count ≡ length (vectorsOf (order .n) rows)
   pub sumsAre : sums ≡ sumCount (length (tableOf order groupSize)) (length (vectorsOf (order .n) rows))
-  pub conformal : (v : Vector) → InLattice (generatorsOf order) v → ConformalSum (order .n) (exchangesOf order) (vectorsOf (order .n) rows) v
+  pub conformal : (v : Vector) → InLattice (generatorsOf order) v
+      → ConformalSum (order .n) (exchangesOf order) (vectorsOf (order .n) rows) v
 
--- demand 3: the answer and the area by the definition; a pass if and only if the rules are kept and the list is whole; what a pass says; zeros after a refusal
-pub record CheckPromise (order : Order) (rows coefficients : List ℤ) (groupSize : ℕ) (answer : Answer) (group : List ℕ) : Type 0 where
+-- demand 3: the answer and the area by the definition; a pass if and only if the rules are kept and the list is whole;
+-- what a pass says; zeros after a refusal
+pub record CheckPromise (order : Order) (rows coefficients : List ℤ) (groupSize : ℕ) (answer : Answer) (group : List ℕ)
+    : Type 0 where
   pub answers : answer ≡ checkCall order rows coefficients groupSize .answer
   pub groupHolds : group ≡ checkCall order rows coefficients groupSize .group
-  pub passes : (answer ≡ Passed (length (vectorsOf (order .n) rows)) (sumCount (length (tableOf order groupSize)) (length (vectorsOf (order .n) rows))))
-      ↔ (RulesKept order rows coefficients groupSize × Whole (order .n) (exchangesOf order) (generatorsOf order) (vectorsOf (order .n) rows))
-  pub passed : (count sums : ℕ) → answer ≡ Passed count sums → CheckPassed order rows coefficients groupSize group count sums
+  pub passes : (answer ≡ passOf order rows groupSize)
+      ↔ (RulesKept order rows coefficients groupSize × WholeFor order rows)
+  pub passed : (count sums : ℕ) → answer ≡ Passed count sums
+      → CheckPassed order rows coefficients groupSize group count sums
   pub refused : (number place : ℕ) → answer ≡ Refused number place → group ≡ replicate (length group) 0

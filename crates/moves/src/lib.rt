@@ -1,46 +1,40 @@
 // The lent calls (Specification 1.1): List, Split and Check.
 ghost use mathlib.Core.Path.{_≡_};
-ghost use mathlib.Core.Bool.{true, not};
 ghost use mathlib.Core.List.{[], _∷_};
-ghost use Prim.Native.Nat.{_/_, _≤_, min};
-ghost use lib.Dec.{leb};
-ghost use lib.IntN.{pos};
-ghost use lib.ListN.{length, getD};
-ghost use Rattle.definitions.specs.declared.Fault.the-variants.{None};
-ghost use Rattle.definitions.specs.Limits.{cells, entryLimit, groupLimit, listLimit, pieceWidth, splitLimit};
-ghost use Rattle.definitions.specs.Vector.{isZero, within};
-ghost use Rattle.definitions.specs.Group.{groupTable};
-ghost use Rattle.definitions.specs.Lent.{chunks, rowsOf, groupRows, tableOf};
-ghost use Rattle.definitions.specs.Refusals.{accepted, cellsFault, faultIf, faultWhere, firstFault, isPast, listSizeFault, orderFault, refused, splitSizeFault, unlessFault};
-ghost use Rattle.definitions.specs.Calls.{checkFault, listing, partsOf};
-ghost use Rattle.vectors.specs.Bounds.{headroom};
+ghost use Prim.Native.Nat.{_/_, _≤_};
+ghost use lib.ListN.{length};
+ghost use Rattle.definitions.specs.Limits.{groupLimit, listLimit};
+ghost use Rattle.definitions.specs.Lent.{orderOf, tableOf};
+ghost use Rattle.definitions.specs.Refusals.{accepted, cellsFault, firstFault, refused, splitSizeFault};
+ghost use Rattle.definitions.specs.Calls.{checkFault, listing, partsOf, splitEnd};
+ghost use Rattle.reduction.specs.Areas.{sequencesIn};
 ghost use Rattle.moves.specs.Promise.{ListPromise, SplitPromise, CheckPromise};
-ghost use Rattle.moves.specs.Found.{generatorsFault, groupFault, testedOf, Tabled, Grouped, listingWith, Finds, Held, listingIn, SplitEnds, checkedOf, broughtFault, Sized, Checks};
+ghost use Rattle.moves.specs.Found.{Finds, Grouped, listingWith};
+ghost use Rattle.moves.specs.Found.{Entered, Held, SplitEnds, listingIn, piecesFault};
+ghost use Rattle.moves.specs.Found.{Checks, Sized, broughtFault, checkedOf};
+use admission::Admission;
+use admission::admit;
+use admission::rows_up_to;
 use completion::Completion;
 use definitions::Answer;
 use definitions::Fault;
-use group::Built;
-use refusals::limits::ENTRY_LIMIT;
-use refusals::limits::GROUP_LIMIT;
-use refusals::limits::LIST_LIMIT;
-use refusals::limits::PIECE_WIDTH;
-use refusals::limits::SPLIT_LIMIT;
-use vectors::CELLS;
+use definitions::limits::CELLS;
+use definitions::limits::GROUP_LIMIT;
+use definitions::limits::LIST_LIMIT;
+use definitions::limits::PIECE_WIDTH;
+use definitions::limits::SPLIT_LIMIT;
+use reduction::Shape;
+use vectors::clear;
+use vectors::clear_bytes;
 
 // The marks of all images of all list rows.
 const MARKS: usize = LIST_LIMIT * GROUP_LIMIT;
 
-// What the tests of generators and exchanges find: the order of the group, or the number and the place of a refusal.
-pub enum Tested {
-    Order(usize),
-    Refused { number: u64, place: u64 },
-}
-
 // What a List finds: the numbers of its answer.
-pub enum Listed {
+enum Listed {
     Found {
         rows: u64,
-        order: u64,
+        members: u64,
         stored: u64,
         sums: u64,
     },
@@ -50,104 +44,44 @@ pub enum Listed {
     },
 }
 
+// The numbers of an accepted List.
+struct Numbers {
+    rows: u64,
+    members: u64,
+    stored: u64,
+    sums: u64,
+}
+
 // What a Check finds: the numbers of its answer.
-pub enum Checked {
+enum Checked {
     Passed { rows: u64, sums: u64 },
     Refused { number: u64, place: u64 },
 }
 
-// The rows of `width` numbers of an area, at most `limit`.
-fn rows_up_to(limit: usize, width: usize, size: usize) -> usize
-    requires { ⌜ 1 ≤ width ⌝ }
-    ensures { λ r. ⌜ r ≡ min limit (size / width) ⌝ }
-{
-    let rows = size / width;
-    if limit < rows {
-        return limit;
-    }
-    rows
-}
+// ---- List
 
-// Refusals 5 and 6 of a List (Specification 7.3).
-fn size_fault(n: usize, generators: &[i32], exchanges: &[u8], list: usize, group: usize) -> Fault
-    ensures { λ r. ⌜ r ≡ firstFault (cellsFault n ∷ listSizeFault (record { n = n; generators = now (generators .entry); exchanges = now (exchanges .entry) }) list group ∷ []) ⌝ }
+// Steps 1 to 5 with the table of a group in its area (Specification 3).
+fn complete_list(generators: &[i32], list: &mut [i32], group: &[u8], shape: Shape) -> Listed
+    requires grouped { ⌜ Grouped shape (now generators) (now group) ⌝ }
+    ensures found { λ r. ⌜
+        (let table = now (group .entry) in
+        let size = length (now (list .entry)) in
+        let due = listingWith (shape .n) size (sequencesIn shape table) (now (generators .entry)) in
+        Finds (shape .n) size (length table) due (now (list .exit)) table r)
+        ⌝ }
 {
-    let cells = refusals::cells_fault(n);
-    let sizes = refusals::list_size_fault(n, generators, exchanges, list, group);
-    refusals::first_met(cells, sizes)
-}
-
-// Refusals 7 and 8 (Specification 7.2).
-fn generators_fault(n: usize, generators: &[i32]) -> Fault
-    requires { ⌜ (1 ≤ n) × (n ≤ cells) ⌝ }
-    ensures { λ r. ⌜ r ≡ generatorsFault n (now (generators .entry)) ⌝ }
-{
-    let past = refusals::past_fault(generators, 7, ENTRY_LIMIT);
-    let zero = refusals::zero_fault(n, generators);
-    refusals::first_met(past, zero)
-}
-
-// The order `g` of the group, unless a test was met.
-fn unless_met(fault: Fault, g: usize) -> Tested
-    ensures { λ r. ⌜ r ≡ testedOf fault g ⌝ }
-{
-    match fault {
-        Fault::At { number, place } => Tested::Refused { number, place },
-        Fault::None => Tested::Order(g),
-    }
-}
-
-// Refusals 9 to 11, and the table of the group in its area (Specification 2.5 and 7.2).
-fn test_group(n: usize, generators: &[i32], exchanges: &[u8], group: &mut [u8]) -> Tested
-    requires { ⌜ (1 ≤ n) × (n ≤ cells) ⌝ }
-    requires { ⌜ within headroom (now generators) ≡ true ⌝ }
-    ensures { λ r. ⌜ Tabled (length (now (group .entry))) (groupFault n (groupRows n (length (now (group .entry)))) (now (generators .entry)) (now (exchanges .entry))) (groupTable n (rowsOf n (now (exchanges .entry))) (groupRows n (length (now (group .entry))))) (now (group .exit)) r ⌝ }
-{
-    let count = exchanges.len() / n;
-    let limit = rows_up_to(GROUP_LIMIT, n, group.len());
-    let built = group::group_table(&mut *group, n, limit, exchanges, count);
-    match built {
-        Built::Invalid(p) => Tested::Refused {
-            number: 9,
-            place: p as u64,
-        },
-        Built::TooLarge => Tested::Refused {
-            number: 10,
-            place: 0,
-        },
-        Built::Order(g) => unless_met(refusals::leaving_fault(n, generators, exchanges), g),
-    }
-}
-
-// Refusals 7 to 11, and the table of the group in its area (Specification 2.5 and 7.2).
-fn test_order(n: usize, generators: &[i32], exchanges: &[u8], group: &mut [u8]) -> Tested
-    requires { ⌜ (1 ≤ n) × (n ≤ cells) ⌝ }
-    ensures { λ r. ⌜ Tabled (length (now (group .entry))) (orderFault (record { n = n; generators = now (generators .entry); exchanges = now (exchanges .entry) }) (length (now (group .entry)))) (tableOf (record { n = n; generators = now (generators .entry); exchanges = now (exchanges .entry) }) (length (now (group .entry)))) (now (group .exit)) r ⌝ }
-{
-    let fault = generators_fault(n, generators);
-    match fault {
-        Fault::At { number, place } => Tested::Refused { number, place },
-        Fault::None => test_group(n, generators, exchanges, &mut *group),
-    }
-}
-
-// Steps 1 to 5 with the table of a group (Specification 3).
-fn find_rows(n: usize, generators: &[i32], list: &mut [i32], group: &[u8], g: usize) -> Listed
-    requires { ⌜ Grouped n g (now generators) (now group) ⌝ }
-    ensures { λ r. ⌜ Finds n (length (now (list .entry))) (length (now (group .entry))) (listingWith n (length (now (list .entry))) (chunks n g (now (group .entry))) (now (generators .entry))) (now (list .exit)) (now (group .entry)) r ⌝ }
-{
-    ordering::clear(&mut *list, 0);
+    clear(&mut *list, 0);
     let mut marks = [0u8; MARKS];
-    let limit = rows_up_to(LIST_LIMIT, n, list.len());
-    let c = completion::complete(generators, &mut *list, n, group, g, limit, &mut marks);
+    let limit = rows_up_to(LIST_LIMIT, shape.n, list.len());
+    let c = completion::complete(generators, &mut *list, group, shape, limit, &mut marks);
     match c {
         Completion::Stopped { number, place } => Listed::Refused { number, place },
         Completion::Running(s) => {
             let stored = s.stored;
-            let rows = ordering::finish(&mut *list, n, stored, group, g, &mut marks);
+            let rows = sorting::finish(&mut *list, stored, group, shape, &mut marks);
             Listed::Found {
                 rows: rows as u64,
-                order: g as u64,
+                members: shape.g as u64,
                 stored: stored as u64,
                 sums: s.sums,
             }
@@ -155,43 +89,31 @@ fn find_rows(n: usize, generators: &[i32], list: &mut [i32], group: &[u8], g: us
     }
 }
 
-// 7 to 13, and the areas of an accepted List (Specification 7.2).
-fn find_sized(
-    n: usize,
-    generators: &[i32],
-    exchanges: &[u8],
-    list: &mut [i32],
-    group: &mut [u8],
-) -> Listed
-    requires { ⌜ cellsFault n ≡ None ⌝ }
-    ensures { λ r. ⌜ Finds n (length (now (list .entry))) (length (now (group .entry))) (unlessFault (orderFault (record { n = n; generators = now (generators .entry); exchanges = now (exchanges .entry) }) (length (now (group .entry)))) (listingWith n (length (now (list .entry))) (tableOf (record { n = n; generators = now (generators .entry); exchanges = now (exchanges .entry) }) (length (now (group .entry)))) (now (generators .entry)))) (now (list .exit)) (now (group .exit)) r ⌝ }
-{
-    let t = test_order(n, generators, exchanges, &mut *group);
-    match t {
-        Tested::Refused { number, place } => Listed::Refused { number, place },
-        Tested::Order(g) => find_rows(n, generators, &mut *list, &*group, g),
-    }
-}
-
 // 5 to 13, and the areas of an accepted List (Specification 7.1).
-fn find(
+fn make_list(
     n: usize,
     generators: &[i32],
     exchanges: &[u8],
     list: &mut [i32],
     group: &mut [u8],
 ) -> Listed
-    ensures { λ r. ⌜ Finds n (length (now (list .entry))) (length (now (group .entry))) (listing (record { n = n; generators = now (generators .entry); exchanges = now (exchanges .entry) }) (length (now (list .entry))) (length (now (group .entry)))) (now (list .exit)) (now (group .exit)) r ⌝ }
+    ensures found { λ r. ⌜
+        (let order = orderOf n (now (generators .entry)) (now (exchanges .entry)) in
+        let listSize = length (now (list .entry)) in
+        let groupSize = length (now (group .entry)) in
+        Finds n listSize groupSize (listing order listSize groupSize) (now (list .exit)) (now (group .exit)) r)
+        ⌝ }
 {
-    let fault = size_fault(n, generators, exchanges, list.len(), group.len());
-    match fault {
-        Fault::At { number, place } => Listed::Refused { number, place },
-        Fault::None => find_sized(n, generators, exchanges, &mut *list, &mut *group),
+    let fits = refusals::whole_rows(n, list.len());
+    let admission = admit(n, generators, exchanges, fits, &mut *group);
+    match admission {
+        Admission::Refused { number, place } => Listed::Refused { number, place },
+        Admission::Members(g) => complete_list(generators, &mut *list, &*group, Shape { n, g }),
     }
 }
 
-// List: one vector of each kind of the Graver basis in the list area, in order, and the table of the group in the group area; zeros behind them,
-// and nothing but zeros after a refusal (Specification 1.1).
+// List: one vector of each kind of the Graver basis in the list area, sorted, and the table of the group in the group
+// area; zeros behind them, and nothing but zeros after a refusal (Specification 1.1).
 pub fn list(
     n: usize,
     generators: &[i32],
@@ -199,32 +121,39 @@ pub fn list(
     list: &mut [i32],
     group: &mut [u8],
 ) -> Answer
-    ensures { λ r. ⌜ ListPromise (record { n = n; generators = now (generators .entry); exchanges = now (exchanges .entry) }) (length (now (list .entry))) (length (now (group .entry))) r (now (list .exit)) (now (group .exit)) ⌝ }
+    ensures kept { λ r. ⌜
+        (let order = orderOf n (now (generators .entry)) (now (exchanges .entry)) in
+        let listSize = length (now (list .entry)) in
+        let groupSize = length (now (group .entry)) in
+        ListPromise order listSize groupSize r (now (list .exit)) (now (group .exit)))
+        ⌝ }
 {
-    let found = find(n, generators, exchanges, &mut *list, &mut *group);
+    let found = make_list(n, generators, exchanges, &mut *list, &mut *group);
     match found {
         Listed::Found {
             rows,
-            order,
+            members,
             stored,
             sums,
         } => Answer::Moves {
             rows,
-            order,
+            members,
             stored,
             sums,
         },
         Listed::Refused { number, place } => {
-            ordering::clear(&mut *list, 0);
-            group::clear(&mut *group, 0);
+            clear(&mut *list, 0);
+            clear_bytes(&mut *group, 0);
             Answer::Refused { number, place }
         }
     }
 }
 
+// ---- Split
+
 // Refusals 5 and 6 that come before the List of a Split (Specification 7.3).
 fn split_sizes(n: usize, vector: &[i32], pieces: usize) -> Fault
-    ensures { λ r. ⌜ r ≡ firstFault (cellsFault n ∷ splitSizeFault n (now (vector .entry)) pieces ∷ []) ⌝ }
+    ensures met { λ r. ⌜ r ≡ firstFault (cellsFault n ∷ splitSizeFault n (now (vector .entry)) pieces ∷ []) ⌝ }
 {
     let cells = refusals::cells_fault(n);
     let sizes = refusals::split_size_fault(n, vector, pieces);
@@ -233,24 +162,29 @@ fn split_sizes(n: usize, vector: &[i32], pieces: usize) -> Fault
 
 // A refused Split: zeros in its three areas (Specification 7.4).
 fn refuse_split(
-    n: usize,
     number: u64,
     place: u64,
     basis: &mut [i32],
     group: &mut [u8],
     pieces: &mut [i32],
 ) -> Answer
-    ensures { λ r. ⌜ SplitEnds n (length (now (basis .entry))) (length (now (group .entry))) (length (now (pieces .entry))) (refused number place) r (now (basis .exit)) (now (group .exit)) (now (pieces .exit)) ⌝ }
+    ensures zeros { λ r. ⌜
+        (let listSize = length (now (basis .entry)) in
+        let groupSize = length (now (group .entry)) in
+        let due = splitEnd 0 listSize groupSize (length (now (pieces .entry))) (refused number place) in
+        SplitEnds due r (now (basis .exit)) (now (group .exit)) (now (pieces .exit)))
+        ⌝ }
 {
-    ordering::clear(&mut *basis, 0);
-    group::clear(&mut *group, 0);
-    ordering::clear(&mut *pieces, 0);
+    clear(&mut *basis, 0);
+    clear_bytes(&mut *group, 0);
+    clear(&mut *pieces, 0);
     Answer::Refused { number, place }
 }
 
-// Refusals 15 and 16: what remains of the vector, and the number of its pieces in an area of `size` numbers (Specification 4.1).
-fn parts_fault(rest: [i32; CELLS], count: usize, size: usize) -> Fault
-    ensures { λ r. ⌜ r ≡ firstFault (faultIf 15 (not (isZero rest)) ∷ faultIf 16 (not (leb count (size / pieceWidth))) ∷ []) ⌝ }
+// Refusals 15 and 16: what remains of the vector, and the number of its pieces in an area of `size` numbers
+// (Specification 4.1).
+fn pieces_fault(rest: [i32; CELLS], count: usize, size: usize) -> Fault
+    ensures met { λ r. ⌜ r ≡ piecesFault rest count size ⌝ }
 {
     let outside = refusals::fault_if(15, !vectors::is_zero(rest));
     let crowded = refusals::fault_if(16, !(count <= size / PIECE_WIDTH));
@@ -258,43 +192,41 @@ fn parts_fault(rest: [i32; CELLS], count: usize, size: usize) -> Fault
 }
 
 // The pieces of a vector by the list and the group in their areas, and refusals 15 and 16 (Specification 4.1).
-fn split_entries(
+fn take_pieces(
     n: usize,
     vector: &[i32],
     basis: &mut [i32],
     group: &mut [u8],
     pieces: &mut [i32],
-    rows: u64,
-    order: u64,
-    stored: u64,
-    sums: u64,
+    found: Numbers,
 ) -> Answer
-    requires { ⌜ Held n rows order (now basis) (now group) ⌝ }
-    requires { ⌜ (length (now vector) ≡ n) × (faultWhere 14 (length (now vector)) (λ p. isPast splitLimit (getD (now vector) p (pos 0))) ≡ None) ⌝ }
-    ensures { λ r. ⌜ SplitEnds n (length (now (basis .entry))) (length (now (group .entry))) (length (now (pieces .entry))) (partsOf (now (vector .entry)) (length (now (pieces .entry))) (accepted (listingIn n rows order stored sums (now (basis .entry)) (now (group .entry))))) r (now (basis .exit)) (now (group .exit)) (now (pieces .exit)) ⌝ }
+    requires held { ⌜ Held n found (now basis) (now group) ⌝ }
+    requires entered { ⌜ Entered n (now vector) ⌝ }
+    ensures ended { λ r. ⌜
+        (let listed = listingIn n found (now (basis .entry)) (now (group .entry)) in
+        let size = length (now (pieces .entry)) in
+        let due = partsOf (now (vector .entry)) size (accepted listed) in
+        let ends = splitEnd n (length (now (basis .entry))) (length (now (group .entry))) size due in
+        SplitEnds ends r (now (basis .exit)) (now (group .exit)) (now (pieces .exit)))
+        ⌝ }
 {
     let v = vectors::load(vector, 0, n);
-    let k = rows as usize;
-    let g = order as usize;
-    let taken = pieces::split_rows(v, &*basis, n, k, &*group, g, &mut *pieces);
+    let k = found.rows as usize;
+    let g = found.members as usize;
+    let taken = pieces::split_rows(v, &*basis, k, &*group, Shape { n, g }, &mut *pieces);
     let rest = taken.rest;
     let count = taken.count;
-    let fault = parts_fault(rest, count, pieces.len());
+    let fault = pieces_fault(rest, count, pieces.len());
     match fault {
-        Fault::At { number, place } => refuse_split(
-            n,
-            number,
-            place,
-            &mut *basis,
-            &mut *group,
-            &mut *pieces,
-        ),
+        Fault::At { number, place } => {
+            refuse_split(number, place, &mut *basis, &mut *group, &mut *pieces)
+        }
         Fault::None => Answer::Split {
             pieces: count as u64,
-            rows,
-            order,
-            stored,
-            sums,
+            rows: found.rows,
+            members: found.members,
+            stored: found.stored,
+            sums: found.sums,
         },
     }
 }
@@ -306,78 +238,29 @@ fn split_listed(
     basis: &mut [i32],
     group: &mut [u8],
     pieces: &mut [i32],
-    rows: u64,
-    order: u64,
-    stored: u64,
-    sums: u64,
+    found: Numbers,
 ) -> Answer
-    requires { ⌜ Held n rows order (now basis) (now group) ⌝ }
-    requires { ⌜ length (now vector) ≡ n ⌝ }
-    ensures { λ r. ⌜ SplitEnds n (length (now (basis .entry))) (length (now (group .entry))) (length (now (pieces .entry))) (partsOf (now (vector .entry)) (length (now (pieces .entry))) (accepted (listingIn n rows order stored sums (now (basis .entry)) (now (group .entry))))) r (now (basis .exit)) (now (group .exit)) (now (pieces .exit)) ⌝ }
+    requires held { ⌜ Held n found (now basis) (now group) ⌝ }
+    requires sized { ⌜ length (now vector) ≡ n ⌝ }
+    ensures ended { λ r. ⌜
+        (let listed = listingIn n found (now (basis .entry)) (now (group .entry)) in
+        let size = length (now (pieces .entry)) in
+        let due = partsOf (now (vector .entry)) size (accepted listed) in
+        let ends = splitEnd n (length (now (basis .entry))) (length (now (group .entry))) size due in
+        SplitEnds ends r (now (basis .exit)) (now (group .exit)) (now (pieces .exit)))
+        ⌝ }
 {
     let fault = refusals::past_fault(vector, 14, SPLIT_LIMIT);
     match fault {
-        Fault::At { number, place } => refuse_split(
-            n,
-            number,
-            place,
-            &mut *basis,
-            &mut *group,
-            &mut *pieces,
-        ),
-        Fault::None => split_entries(
-            n,
-            vector,
-            &mut *basis,
-            &mut *group,
-            &mut *pieces,
-            rows,
-            order,
-            stored,
-            sums,
-        ),
+        Fault::At { number, place } => {
+            refuse_split(number, place, &mut *basis, &mut *group, &mut *pieces)
+        }
+        Fault::None => take_pieces(n, vector, &mut *basis, &mut *group, &mut *pieces, found),
     }
 }
 
-// The whole List, whose refusal is returned unchanged, and then 14 to 16 (Specification 4).
-fn split_sized(
-    n: usize,
-    generators: &[i32],
-    exchanges: &[u8],
-    vector: &[i32],
-    basis: &mut [i32],
-    group: &mut [u8],
-    pieces: &mut [i32],
-) -> Answer
-    requires { ⌜ firstFault (cellsFault n ∷ splitSizeFault n (now vector) (length (now pieces)) ∷ []) ≡ None ⌝ }
-    ensures { λ r. ⌜ SplitEnds n (length (now (basis .entry))) (length (now (group .entry))) (length (now (pieces .entry))) (partsOf (now (vector .entry)) (length (now (pieces .entry))) (listing (record { n = n; generators = now (generators .entry); exchanges = now (exchanges .entry) }) (length (now (basis .entry))) (length (now (group .entry))))) r (now (basis .exit)) (now (group .exit)) (now (pieces .exit)) ⌝ }
-{
-    ordering::clear(pieces, 0);
-    let listed = list(n, generators, exchanges, &mut *basis, &mut *group);
-    let Answer::Moves {
-        rows,
-        order,
-        stored,
-        sums,
-    } = listed
-    else {
-        return listed;
-    };
-    split_listed(
-        n,
-        vector,
-        &mut *basis,
-        &mut *group,
-        &mut *pieces,
-        rows,
-        order,
-        stored,
-        sums,
-    )
-}
-
-// Split: what List leaves in the list area and the group area, and in the pieces area images of listed rows that add up to the vector, none opposing it;
-// zeros behind them, and nothing but zeros after a refusal (Specification 1.1 and 4).
+// Split: what List leaves in the list area and the group area, and in the pieces area images of listed rows that add up
+// to the vector, none opposing it; zeros behind them, and nothing but zeros after a refusal (Specification 1.1 and 4).
 pub fn split(
     n: usize,
     generators: &[i32],
@@ -387,58 +270,71 @@ pub fn split(
     group: &mut [u8],
     pieces: &mut [i32],
 ) -> Answer
-    ensures { λ r. ⌜ SplitPromise (record { n = n; generators = now (generators .entry); exchanges = now (exchanges .entry) }) (now (vector .entry)) (length (now (basis .entry))) (length (now (group .entry))) (length (now (pieces .entry))) r (now (basis .exit)) (now (group .exit)) (now (pieces .exit)) ⌝ }
+    ensures kept { λ r. ⌜
+        (let order = orderOf n (now (generators .entry)) (now (exchanges .entry)) in
+        let listSize = length (now (basis .entry)) in
+        let groupSize = length (now (group .entry)) in
+        let piecesSize = length (now (pieces .entry)) in
+        SplitPromise order (now (vector .entry)) listSize groupSize piecesSize r
+        (now (basis .exit)) (now (group .exit)) (now (pieces .exit)))
+        ⌝ }
 {
     let fault = split_sizes(n, vector, pieces.len());
-    match fault {
-        Fault::At { number, place } => refuse_split(
-            n,
-            number,
-            place,
-            &mut *basis,
-            &mut *group,
-            &mut *pieces,
-        ),
-        Fault::None => split_sized(
-            n,
-            generators,
-            exchanges,
-            vector,
-            &mut *basis,
-            &mut *group,
-            &mut *pieces,
-        ),
+    if let Fault::At { number, place } = fault {
+        return refuse_split(number, place, &mut *basis, &mut *group, &mut *pieces);
     }
+    clear(pieces, 0);
+    let listed = list(n, generators, exchanges, &mut *basis, &mut *group);
+    let Answer::Moves {
+        rows,
+        members,
+        stored,
+        sums,
+    } = listed
+    else {
+        return listed;
+    };
+    let found = Numbers {
+        rows,
+        members,
+        stored,
+        sums,
+    };
+    split_listed(n, vector, &mut *basis, &mut *group, &mut *pieces, found)
 }
+
+// ---- Check
 
 // 17 to 22 (Specification 5.1).
 fn brought_fault(
-    n: usize,
     generators: &[i32],
     rows: &[i32],
     coefficients: &[i64],
     group: &[u8],
-    g: usize,
+    shape: Shape,
 ) -> Fault
-    requires { ⌜ Grouped n g (now generators) (now group) ⌝ }
-    requires { ⌜ within entryLimit (now generators) ≡ true ⌝ }
-    requires { ⌜ Sized n (now generators) (now rows) (now coefficients) ⌝ }
-    ensures { λ r. ⌜ r ≡ broughtFault n (chunks n g (now (group .entry))) (now (generators .entry)) (now (rows .entry)) (now (coefficients .entry)) ⌝ }
+    requires grouped { ⌜ Grouped shape (now generators) (now group) ⌝ }
+    requires sized { ⌜ Sized (shape .n) (now generators) (now rows) (now coefficients) ⌝ }
+    ensures met { λ r. ⌜
+        (let table = sequencesIn shape (now (group .entry)) in
+        let vectors = now (generators .entry) in
+        r ≡ broughtFault (shape .n) table vectors (now (rows .entry)) (now (coefficients .entry)))
+        ⌝ }
 {
-    let fault = certificates::rows_fault(n, generators, rows, coefficients, group, g);
+    let fault = certificates::rows_fault(generators, rows, coefficients, group, shape);
     match fault {
         Fault::At { number, place } => Fault::At { number, place },
         Fault::None => {
             let mut marks = [0u8; MARKS];
-            wholeness::wholeness_fault(n, generators, rows, group, g, &mut marks)
+            wholeness::wholeness_fault(generators, rows, group, shape, &mut marks)
         }
     }
 }
 
-// A pass of `rows` rows by a group of order `g`, unless a test was met (Specification 5.1).
+// A pass of `rows` rows by a group of `g` members, unless a test was met (Specification 5.1).
 fn unless_faulty(fault: Fault, rows: usize, g: usize) -> Checked
-    requires { ⌜ (rows ≤ listLimit) × (g ≤ groupLimit) ⌝ }
-    ensures { λ r. ⌜ r ≡ checkedOf rows g fault ⌝ }
+    requires few { ⌜ (rows ≤ listLimit) × (g ≤ groupLimit) ⌝ }
+    ensures told { λ r. ⌜ r ≡ checkedOf rows g fault ⌝ }
 {
     match fault {
         Fault::At { number, place } => Checked::Refused { number, place },
@@ -449,8 +345,8 @@ fn unless_faulty(fault: Fault, rows: usize, g: usize) -> Checked
     }
 }
 
-// 7 to 22, and the group area of a list that passes (Specification 5.1).
-fn check_sized(
+// 5 to 22, and the group area of a list that passes (Specification 5.1).
+fn check_list(
     n: usize,
     generators: &[i32],
     exchanges: &[u8],
@@ -458,60 +354,26 @@ fn check_sized(
     coefficients: &[i64],
     group: &mut [u8],
 ) -> Checked
-    requires { ⌜ cellsFault n ≡ None ⌝ }
-    requires { ⌜ Sized n (now generators) (now rows) (now coefficients) ⌝ }
-    ensures { λ r. ⌜ Checks (length (now (rows .entry)) / n) (length (now (group .entry))) (tableOf (record { n = n; generators = now (generators .entry); exchanges = now (exchanges .entry) }) (length (now (group .entry)))) (firstFault (orderFault (record { n = n; generators = now (generators .entry); exchanges = now (exchanges .entry) }) (length (now (group .entry))) ∷ broughtFault n (tableOf (record { n = n; generators = now (generators .entry); exchanges = now (exchanges .entry) }) (length (now (group .entry)))) (now (generators .entry)) (now (rows .entry)) (now (coefficients .entry)) ∷ [])) (now (group .exit)) r ⌝ }
+    ensures checked { λ r. ⌜
+        (let order = orderOf n (now (generators .entry)) (now (exchanges .entry)) in
+        let size = length (now (group .entry)) in
+        let fault = checkFault order (now (rows .entry)) (now (coefficients .entry)) size in
+        Checks (length (now (rows .entry)) / n) size (tableOf order size) fault (now (group .exit)) r)
+        ⌝ }
 {
-    let t = test_order(n, generators, exchanges, &mut *group);
-    match t {
-        Tested::Refused { number, place } => Checked::Refused { number, place },
-        Tested::Order(g) => {
-            let fault = brought_fault(n, generators, rows, coefficients, &*group, g);
+    let fits = refusals::brought_fits(n, generators, rows.len(), coefficients.len());
+    let admission = admit(n, generators, exchanges, fits, &mut *group);
+    match admission {
+        Admission::Refused { number, place } => Checked::Refused { number, place },
+        Admission::Members(g) => {
+            let fault = brought_fault(generators, rows, coefficients, &*group, Shape { n, g });
             unless_faulty(fault, rows.len() / n, g)
         }
     }
 }
 
-// 6 to 22, and the group area of a list that passes (Specification 5.1).
-fn check_celled(
-    n: usize,
-    generators: &[i32],
-    exchanges: &[u8],
-    rows: &[i32],
-    coefficients: &[i64],
-    group: &mut [u8],
-) -> Checked
-    requires { ⌜ cellsFault n ≡ None ⌝ }
-    ensures { λ r. ⌜ Checks (length (now (rows .entry)) / n) (length (now (group .entry))) (tableOf (record { n = n; generators = now (generators .entry); exchanges = now (exchanges .entry) }) (length (now (group .entry)))) (checkFault (record { n = n; generators = now (generators .entry); exchanges = now (exchanges .entry) }) (now (rows .entry)) (now (coefficients .entry)) (length (now (group .entry)))) (now (group .exit)) r ⌝ }
-{
-    let size = group.len();
-    let fault = refusals::check_size_fault(n, generators, exchanges, rows, coefficients, size);
-    match fault {
-        Fault::At { number, place } => Checked::Refused { number, place },
-        Fault::None => check_sized(n, generators, exchanges, rows, coefficients, &mut *group),
-    }
-}
-
-// 5 to 22, and the group area of a list that passes (Specification 5.1).
-fn check_brought(
-    n: usize,
-    generators: &[i32],
-    exchanges: &[u8],
-    rows: &[i32],
-    coefficients: &[i64],
-    group: &mut [u8],
-) -> Checked
-    ensures { λ r. ⌜ Checks (length (now (rows .entry)) / n) (length (now (group .entry))) (tableOf (record { n = n; generators = now (generators .entry); exchanges = now (exchanges .entry) }) (length (now (group .entry)))) (checkFault (record { n = n; generators = now (generators .entry); exchanges = now (exchanges .entry) }) (now (rows .entry)) (now (coefficients .entry)) (length (now (group .entry)))) (now (group .exit)) r ⌝ }
-{
-    let fault = refusals::cells_fault(n);
-    match fault {
-        Fault::At { number, place } => Checked::Refused { number, place },
-        Fault::None => check_celled(n, generators, exchanges, rows, coefficients, &mut *group),
-    }
-}
-
-// Check: a pass if and only if the rules are kept and the brought list is whole; the table of the group in the group area, zeros behind it,
-// and nothing but zeros after a refusal (Specification 1.1 and 5).
+// Check: a pass if and only if the rules are kept and the brought list is whole; the table of the group in the group
+// area, zeros behind it, and nothing but zeros after a refusal (Specification 1.1 and 5).
 pub fn check(
     n: usize,
     generators: &[i32],
@@ -520,13 +382,17 @@ pub fn check(
     coefficients: &[i64],
     group: &mut [u8],
 ) -> Answer
-    ensures { λ r. ⌜ CheckPromise (record { n = n; generators = now (generators .entry); exchanges = now (exchanges .entry) }) (now (rows .entry)) (now (coefficients .entry)) (length (now (group .entry))) r (now (group .exit)) ⌝ }
+    ensures kept { λ r. ⌜
+        (let order = orderOf n (now (generators .entry)) (now (exchanges .entry)) in
+        let size = length (now (group .entry)) in
+        CheckPromise order (now (rows .entry)) (now (coefficients .entry)) size r (now (group .exit)))
+        ⌝ }
 {
-    let found = check_brought(n, generators, exchanges, rows, coefficients, &mut *group);
+    let found = check_list(n, generators, exchanges, rows, coefficients, &mut *group);
     match found {
         Checked::Passed { rows, sums } => Answer::Passed { rows, sums },
         Checked::Refused { number, place } => {
-            group::clear(&mut *group, 0);
+            clear_bytes(&mut *group, 0);
             Answer::Refused { number, place }
         }
     }

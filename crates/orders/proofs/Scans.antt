@@ -14,7 +14,7 @@ use Rattle.orders.specs.declared.Service.{Service}
 use Rattle.orders.specs.declared.Progress.{Progress}
 use Rattle.orders.specs.declared.Counts.{Counts}
 use Rattle.orders.specs.declared.Scanned.{Scanned}
-use Rattle.orders.specs.declared.Scanned.the-variants.{Order, Refused}
+use Rattle.orders.specs.declared.Scanned.the-variants.{Counted, Refused}
 use Rattle.orders.specs.declared.Step.{Step}
 use Rattle.orders.specs.declared.Step.the-variants.{Next, Stop}
 use Rattle.orders.specs.Scan.{refuse, oneIf, countedBy, admitted, stepFrom, stepOf, after, scanFrom, scanOf, start}
@@ -96,7 +96,7 @@ unfolding scanOf
 answered v order = answered-from v order (suc (length order)) start (sound-start order) (omega arith)
 
 -- an accepted order keeps the limits, and its counts say how long it is and where its commands stand
-pub accepted : (v : Service) (order : List ℕ) (c : Counts) → scanOf v order ≡ Order c → Accepted v order c
+pub accepted : (v : Service) (order : List ℕ) (c : Counts) → scanOf v order ≡ Counted c → Accepted v order c
 accepted v order c e = subst (Answered v order) e (answered v order)
 
 -- a refusal is one of 1 to 6, and its place lies in the order or at its end

@@ -22,7 +22,7 @@ use Rattle.orders.specs.declared.Service.the-variants.{List as ListServi
 use Rattle.orders.specs.declared.Progress.{Progress}
 use Rattle.orders.specs.declared.Counts.{Counts}
 use Rattle.orders.specs.declared.Scanned.{Scanned}
-use Rattle.orders.specs.declared.Scanned.the-variants.{Order, Refused}
+use Rattle.orders.specs.declared.Scanned.the-variants.{Counted, Refused}
 use Rattle.orders.specs.declared.Step.{Step}
 use Rattle.orders.specs.declared.Step.the-variants.{Next, Stop}
 use Rattle.orders.specs.Scan.{Within, phases, refuse, oneIf, countedBy, tooMany, sizedBy, countsOf, passed, admitted, stepFrom, stepOf}
@@ -70,7 +70,7 @@ pub record TurnedDown (order : List ℕ) (number place : ℕ) : Type 0 where
 
 -- what a scan answers
 abbrev pub Answered : Service → (order : List ℕ) → Scanned → Type 0
-Answered v order (Order c) = Accepted v order c
+Answered v order (Counted c) = Accepted v order c
 Answered v order (Refused number place) = TurnedDown order number place
 
 -- where a command at `at` goes on, it does so further on

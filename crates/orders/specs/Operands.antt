@@ -41,7 +41,12 @@ generatorPlaces c = record { start = 3; stride = 1 + 2 * c .cells; width = c .ce
 
 -- those of the exchanges: behind the generators
 abbrev pub exchangePlaces : Counts → Places
-exchangePlaces c = record { start = 3 + c .generators * (1 + 2 * c .cells); stride = 1 + c .cells; width = c .cells; count = c .exchanges }
+exchangePlaces c = record {
+  start = 3 + c .generators * (1 + 2 * c .cells);
+  stride = 1 + c .cells;
+  width = c .cells;
+  count = c .exchanges;
+}
 
 -- those of the rows: behind the exchanges, each followed by its coefficients
 abbrev pub rowPlaces : Counts → Places
@@ -49,7 +54,12 @@ rowPlaces c = record { start = headOf c + 1; stride = pairOf c; width = c .cells
 
 -- those of the coefficients: each behind its row
 abbrev pub coefficientPlaces : Counts → Places
-coefficientPlaces c = record { start = headOf c + 1 + (1 + 2 * c .cells); stride = pairOf c; width = c .generators; count = c .rows }
+coefficientPlaces c = record {
+  start = headOf c + 1 + (1 + 2 * c .cells);
+  stride = pairOf c;
+  width = c .generators;
+  count = c .rows;
+}
 
 -- those of the vector: behind the exchanges
 abbrev pub vectorPlaces : Counts → Places
@@ -69,7 +79,9 @@ LieWithin order p size = (k : ℕ) → k < p .count → p .start + k * p .stride
 
 -- their numbers one behind the other, `size` bytes to a number
 unfoldable pub numbersIn : {A : Type 0} (read : ℕ → A) → Places → (size : ℕ) → List A
-numbersIn read p size = concat (map (λ k. map (λ j. read (p .start + k * p .stride + size * j)) (range 0 (p .width))) (range 0 (p .count)))
+numbersIn read p size =
+    concat
+    (map (λ k. map (λ j. read (p .start + k * p .stride + size * j)) (range 0 (p .width))) (range 0 (p .count)))
 
 -- the numbers of the generators, two bytes each
 unfoldable pub generatorsIn : (order : List ℕ) → Counts → List ℤ

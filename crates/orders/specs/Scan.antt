@@ -16,15 +16,12 @@ use Rattle.orders.specs.declared.Service.the-variants.{List as ListServi
 use Rattle.orders.specs.declared.Progress.{Progress}
 use Rattle.orders.specs.declared.Counts.{Counts}
 use Rattle.orders.specs.declared.Scanned.{Scanned}
-use Rattle.orders.specs.declared.Scanned.the-variants.{Order, Refused}
+use Rattle.orders.specs.declared.Scanned.the-variants.{Counted, Refused}
 use Rattle.orders.specs.declared.Step.{Step}
 use Rattle.orders.specs.declared.Step.the-variants.{Next, Stop}
 
--- 8.3: the first bytes of a file, to which the answer is the answer to the file
-abbrev pub orderLimit : ℕ
-orderLimit = 65_536
-
--- 8.2: the phases of a scan, by the command before: 0 nothing, 1 SIZE or GENERATOR, 2 EXCHANGE, 3 VECTOR, 4 ROW, 5 COEFFICIENTS, 6 END
+-- 8.2: the phases of a scan, by the command before:
+-- 0 nothing, 1 SIZE or GENERATOR, 2 EXCHANGE, 3 VECTOR, 4 ROW, 5 COEFFICIENTS, 6 END
 abbrev pub phases : ℕ
 phases = 7
 
@@ -98,7 +95,14 @@ tooMany t = ltb generatorLimit (t .generators) || ltb exchangeLimit (t .exchange
 
 -- the progress with the cells that SIZE gives
 abbrev pub sizedBy : Progress → (n : ℕ) → Progress
-sizedBy t n = record { at = t .at; phase = t .phase; cells = n; generators = t .generators; exchanges = t .exchanges; rows = t .rows }
+sizedBy t n = record {
+  at = t .at;
+  phase = t .phase;
+  cells = n;
+  generators = t .generators;
+  exchanges = t .exchanges;
+  rows = t .rows;
+}
 
 -- what was counted
 abbrev pub countsOf : Progress → Counts
@@ -107,7 +111,7 @@ countsOf t = record { cells = t .cells; generators = t .generators; exchanges = 
 -- 8.3, 6 to 8: a whole command that may stand, t being the progress past it
 unfoldable pub passed : (order : List ℕ) → Progress → Command → Step
 passed order t (Size p) = let n = getD order p 0 in if leb 1 n && leb n cells then Next (sizedBy t n) else refuse 5 0
-passed order t (End p) = if ltb p (length order) then refuse 4 p else Stop (Order (countsOf t))
+passed order t (End p) = if ltb p (length order) then refuse 4 p else Stop (Counted (countsOf t))
 passed order t (Generator p) = Next t
 passed order t (Exchange p) = Next t
 passed order t (Row p) = Next t

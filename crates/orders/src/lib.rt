@@ -3,17 +3,18 @@ ghost use mathlib.Core.Path.{_≡_};
 ghost use Prim.Native.Nat.{_+_, _-_, _≤_, _<_};
 ghost use lib.ListN.{length};
 ghost use Rattle.commands.specs.Commands.{operandsOf, widthOf};
-ghost use Rattle.orders.specs.Scan.{Within, phases, serviceOf, nextPhase, refuse, oneIf, countedBy, tooMany, sizedBy, countsOf, passed, admitted, stepOf, scanOf};
+ghost use Rattle.orders.specs.Scan.{Within, phases, serviceOf, nextPhase, refuse, oneIf, countedBy, tooMany};
+ghost use Rattle.orders.specs.Scan.{sizedBy, countsOf, passed, admitted, stepOf, scanOf};
 use commands::Command;
 use commands::Reading;
 use commands::code_of;
 use commands::command_at;
 use commands::operands_of;
 use commands::width_of;
-use refusals::limits::EXCHANGE_LIMIT;
-use refusals::limits::GENERATOR_LIMIT;
-use refusals::limits::LIST_LIMIT;
-use vectors::CELLS;
+use definitions::limits::CELLS;
+use definitions::limits::EXCHANGE_LIMIT;
+use definitions::limits::GENERATOR_LIMIT;
+use definitions::limits::LIST_LIMIT;
 
 // The numbers that an accepted order lends, in lent areas.
 pub mod operands;
@@ -45,7 +46,7 @@ pub struct Counts {
 
 // The counts of an accepted order, or the number and the place of a refusal.
 pub enum Scanned {
-    Order(Counts),
+    Counted(Counts),
     Refused { number: u64, place: u64 },
 }
 
@@ -87,7 +88,7 @@ const GRAMMAR: [u8; 147] = *b"\
 
 // The number of a service in the grammar.
 fn service_of(service: Service) -> usize
-    ensures { λ r. ⌜ r ≡ serviceOf service ⌝ }
+    ensures number { λ r. ⌜ r ≡ serviceOf service ⌝ }
 {
     match service {
         Service::List => 0,
@@ -98,23 +99,23 @@ fn service_of(service: Service) -> usize
 
 // A digit as a number.
 fn digit(byte: u8) -> usize
-    requires { ⌜ 48 ≤ byte ⌝ }
-    ensures { λ r. ⌜ r ≡ byte - 48 ⌝ }
+    requires digit { ⌜ 48 ≤ byte ⌝ }
+    ensures value { λ r. ⌜ r ≡ byte - 48 ⌝ }
 {
     (byte - b'0') as usize
 }
 
 // The phase after a command, 0 where it may not stand (Specification 8.2).
 fn next_phase(service: Service, phase: usize, command: Command) -> usize
-    requires { ⌜ phase < phases ⌝ }
-    ensures { λ r. ⌜ r ≡ nextPhase service phase command ⌝ }
+    requires phase { ⌜ phase < phases ⌝ }
+    ensures next { λ r. ⌜ r ≡ nextPhase service phase command ⌝ }
 {
     digit(GRAMMAR[KINDS * (PHASES * service_of(service) + phase) + code_of(command)])
 }
 
 // 1 where a command has the byte `code`, else 0.
 fn one_if(command: Command, code: usize) -> usize
-    ensures { λ r. ⌜ r ≡ oneIf command code ⌝ }
+    ensures one { λ r. ⌜ r ≡ oneIf command code ⌝ }
 {
     if code_of(command) == code {
         return 1;
@@ -124,8 +125,8 @@ fn one_if(command: Command, code: usize) -> usize
 
 // The progress past a command: its operands are skipped, and it is counted.
 fn counted(order: &[u8], service: Service, s: Progress, command: Command) -> Progress
-    requires { ⌜ Within (now order) s × (operandsOf command ≤ length (now order)) ⌝ }
-    ensures { λ r. ⌜ r ≡ countedBy service s command ⌝ }
+    requires within { ⌜ Within (now order) s × (operandsOf command ≤ length (now order)) ⌝ }
+    ensures counted { λ r. ⌜ r ≡ countedBy service s command ⌝ }
 {
     let p = operands_of(command);
     let at = p + width_of(command, s.cells, s.generators);
@@ -145,14 +146,14 @@ fn counted(order: &[u8], service: Service, s: Progress, command: Command) -> Pro
 
 // Whether there are more generators, exchanges or rows than may be.
 fn too_many(t: Progress) -> bool
-    ensures { λ r. ⌜ r ≡ tooMany t ⌝ }
+    ensures many { λ r. ⌜ r ≡ tooMany t ⌝ }
 {
     (GENERATOR_LIMIT < t.generators) | (EXCHANGE_LIMIT < t.exchanges) | (LIST_LIMIT < t.rows)
 }
 
 // The scan is over, with a refusal.
 fn refused(number: u64, place: usize) -> Step
-    ensures { λ r. ⌜ r ≡ refuse number place ⌝ }
+    ensures refused { λ r. ⌜ r ≡ refuse number place ⌝ }
 {
     Step::Stop(Scanned::Refused {
         number,
@@ -162,7 +163,7 @@ fn refused(number: u64, place: usize) -> Step
 
 // The progress with the cells that SIZE gives.
 fn sized(t: Progress, n: usize) -> Progress
-    ensures { λ r. ⌜ r ≡ sizedBy t n ⌝ }
+    ensures sized { λ r. ⌜ r ≡ sizedBy t n ⌝ }
 {
     Progress {
         at: t.at,
@@ -176,7 +177,7 @@ fn sized(t: Progress, n: usize) -> Progress
 
 // What was counted.
 fn counts_of(t: Progress) -> Counts
-    ensures { λ r. ⌜ r ≡ countsOf t ⌝ }
+    ensures counts { λ r. ⌜ r ≡ countsOf t ⌝ }
 {
     Counts {
         cells: t.cells,
@@ -188,8 +189,8 @@ fn counts_of(t: Progress) -> Counts
 
 // SIZE, its operand at p: refusal 5, or the number of cells.
 fn pass_size(order: &[u8], t: Progress, p: usize) -> Step
-    requires { ⌜ p < length (now order) ⌝ }
-    ensures { λ r. ⌜ r ≡ passed (now (order .entry)) t (Command.Size p) ⌝ }
+    requires operand { ⌜ p < length (now order) ⌝ }
+    ensures passed { λ r. ⌜ r ≡ passed (now (order .entry)) t (Command.Size p) ⌝ }
 {
     let n = order[p] as usize;
     if (1 <= n) & (n <= CELLS) {
@@ -200,18 +201,18 @@ fn pass_size(order: &[u8], t: Progress, p: usize) -> Step
 
 // END, p behind it: refusal 4, or the order is accepted.
 fn pass_end(order: &[u8], t: Progress, p: usize) -> Step
-    ensures { λ r. ⌜ r ≡ passed (now (order .entry)) t (Command.End p) ⌝ }
+    ensures passed { λ r. ⌜ r ≡ passed (now (order .entry)) t (Command.End p) ⌝ }
 {
     if p < order.len() {
         return refused(4, p);
     }
-    Step::Stop(Scanned::Order(counts_of(t)))
+    Step::Stop(Scanned::Counted(counts_of(t)))
 }
 
 // A whole command that may stand, t being the progress past it (Specification 8.3, 6 to 8).
 fn pass(order: &[u8], t: Progress, command: Command) -> Step
-    requires { ⌜ operandsOf command + widthOf command 0 0 ≤ length (now order) ⌝ }
-    ensures { λ r. ⌜ r ≡ passed (now (order .entry)) t command ⌝ }
+    requires operands { ⌜ operandsOf command + widthOf command 0 0 ≤ length (now order) ⌝ }
+    ensures passed { λ r. ⌜ r ≡ passed (now (order .entry)) t command ⌝ }
 {
     match command {
         Command::Size(p) => pass_size(order, t, p),
@@ -226,8 +227,8 @@ fn pass(order: &[u8], t: Progress, command: Command) -> Step
 
 // A known command at an offset, t being the progress past it (Specification 8.3, 3 to 8).
 fn admit(order: &[u8], at: usize, t: Progress, command: Command) -> Step
-    requires { ⌜ operandsOf command + widthOf command 0 0 ≤ t .at ⌝ }
-    ensures { λ r. ⌜ r ≡ admitted (now (order .entry)) at t command ⌝ }
+    requires operands { ⌜ operandsOf command + widthOf command 0 0 ≤ t .at ⌝ }
+    ensures admitted { λ r. ⌜ r ≡ admitted (now (order .entry)) at t command ⌝ }
 {
     let phase = t.phase;
     if phase == 0 {
@@ -245,8 +246,8 @@ fn admit(order: &[u8], at: usize, t: Progress, command: Command) -> Step
 
 // One command of the scan (Specification 8.3).
 fn next_step(order: &[u8], service: Service, s: Progress) -> Step
-    requires { ⌜ Within (now order) s ⌝ }
-    ensures { λ r. ⌜ r ≡ stepOf service (now (order .entry)) s ⌝ }
+    requires within { ⌜ Within (now order) s ⌝ }
+    ensures next { λ r. ⌜ r ≡ stepOf service (now (order .entry)) s ⌝ }
 {
     let at = s.at;
     let reading = command_at(order, at);
@@ -262,7 +263,7 @@ fn next_step(order: &[u8], service: Service, s: Progress) -> Step
 
 // The scan of an order: its counts, or its first refusal (Specification 8.3).
 pub fn scan(order: &[u8], service: Service) -> Scanned
-    ensures { λ r. ⌜ r ≡ scanOf service (now (order .entry)) ⌝ }
+    ensures scanned { λ r. ⌜ r ≡ scanOf service (now (order .entry)) ⌝ }
 {
     let mut s = Progress {
         at: 0,

@@ -17,7 +17,8 @@ use Rattle.theory.proofs.Areas.{length-filled}
 use Rattle.pieces.specs.Taking.{laid, withNumbers}
 
 -- the pieces of one list, and then those of another
-pub laid-append : (area : List ℤ) (count : ℕ) (pieces others : List Piece) → laid area count (pieces ++ others) ≡ laid (laid area count pieces) (count + length pieces) others
+pub laid-append : (area : List ℤ) (count : ℕ) (pieces others : List Piece)
+    → laid area count (pieces ++ others) ≡ laid (laid area count pieces) (count + length pieces) others
 unfolding laid
 laid-append area count [] others = ap (λ (k : ℕ). laid area k others) (sym (add-zero count))
 laid-append area count (piece ∷ pieces) others =
@@ -27,11 +28,14 @@ laid-append area count (piece ∷ pieces) others =
 
 -- ---- one piece, with room for it and without
 module _ (area : List ℤ) (count : ℕ) (numbers : List ℤ) where
-  pub with-room : count < length area / pieceWidth → paste area (count * pieceWidth) numbers pieceWidth ≡ withNumbers area count numbers
-  with-room h = ap (λ (b : Bool). cond b (paste area (count * pieceWidth) numbers pieceWidth) area) (sym (lt-ltb count (length area / pieceWidth) h))
+  abbrev pasted : List ℤ
+  pasted = paste area (count * pieceWidth) numbers pieceWidth
+
+  pub with-room : count < length area / pieceWidth → pasted ≡ withNumbers area count numbers
+  with-room h = ap (λ (b : Bool). cond b pasted area) (sym (lt-ltb count (length area / pieceWidth) h))
 
   pub without-room : length area / pieceWidth ≤ count → area ≡ withNumbers area count numbers
-  without-room h = ap (λ (b : Bool). cond b (paste area (count * pieceWidth) numbers pieceWidth) area) (sym (le-ltb count (length area / pieceWidth) h))
+  without-room h = ap (λ (b : Bool). cond b pasted area) (sym (le-ltb count (length area / pieceWidth) h))
 
 -- ---- an area that had zeros behind its numbers
 
@@ -40,37 +44,45 @@ paste-filled : (size : ℕ) (front numbers : List ℤ) (at n : ℕ) → length f
     → paste (filled (pos 0) size front) at numbers n ≡ filled (pos 0) size (front ++ numbers)
 unfolding filled
 paste-filled size front numbers at n e f h =
-    ap₂ (λ (x y : List ℤ). x ++ y ++ drop (at + n) held) (take-at front (replicate (size - length front) (pos 0)) at e) (take-all n numbers (omega arith))
+    ap₂ (λ (x y : List ℤ). x ++ y ++ drop (at + n) held)
+    (take-at front (replicate (size - length front) (pos 0)) at e) (take-all n numbers (omega arith))
     ∙ ap (λ (x : List ℤ). front ++ numbers ++ drop (at + n) x) room
     ∙ ap (λ (x : List ℤ). front ++ numbers ++ x) (drop-at (front ++ replicate n (pos 0)) behind (at + n) long)
   where
     held : List ℤ
     held = front ++ replicate (size - length front) (pos 0)
 
+    left : ℕ
+    left = size - length (front ++ numbers)
+
     behind : List ℤ
-    behind = replicate (size - length (front ++ numbers)) (pos 0)
+    behind = replicate left (pos 0)
 
     room : held ≡ (front ++ replicate n (pos 0)) ++ behind
     room =
-        let k : size - length front ≡ n + (size - length (front ++ numbers)) = omega (arith, length-append front numbers) in
+        let k : size - length front ≡ n + left = omega (arith, length-append front numbers) in
         ap (λ (k : ℕ). front ++ replicate k (pos 0)) k
-        ∙ ap (λ (x : List ℤ). front ++ x) (sym (replicate-append-replicate n (size - length (front ++ numbers)) (pos 0)))
+        ∙ ap (λ (x : List ℤ). front ++ x) (sym (replicate-append-replicate n left (pos 0)))
         ∙ sym (append-assoc front (replicate n (pos 0)) behind)
 
     long : length (front ++ replicate n (pos 0)) ≡ at + n
     long = omega (arith, length-append front (replicate n (pos 0)), length-replicate n (pos 0))
 
 -- the pieces of a list after those that the area holds
-pub laid-filled : (size : ℕ) (held : List ℤ) (count : ℕ) (pieces : List Piece) → length held ≡ count * pieceWidth → (count + length pieces) * pieceWidth ≤ size
+pub laid-filled : (size : ℕ) (held : List ℤ) (count : ℕ) (pieces : List Piece)
+    → length held ≡ count * pieceWidth → (count + length pieces) * pieceWidth ≤ size
     → laid (filled (pos 0) size held) count pieces ≡ filled (pos 0) size (held ++ concat (map written pieces))
 unfolding laid concat written
 laid-filled size held count [] e h = ap (filled (pos 0) size) (sym (append-nil held))
 laid-filled size held count (piece ∷ pieces) e h =
     let next = held ++ written piece in
-    let long : length (filled (pos 0) size held) ≡ size = length-filled (pos 0) size held (omega (arith, suc-mul count pieceWidth)) in
-    let enough : suc count * pieceWidth ≤ length (filled (pos 0) size held) = omega arith in
-    let room : count < length (filled (pos 0) size held) / pieceWidth = le-div-iff-mul-le (let p : 0 < pieceWidth = omega arith in p) .1 enough in
+    let before = filled (pos 0) size held in
+    let long : length before ≡ size = length-filled (pos 0) size held (omega (arith, suc-mul count pieceWidth)) in
+    let enough : suc count * pieceWidth ≤ length before = omega arith in
+    let wide : 0 < pieceWidth = omega arith in
+    let room : count < length before / pieceWidth = le-div-iff-mul-le wide .1 enough in
     ap (λ (x : List ℤ). laid x (suc count) pieces)
-    (sym (with-room (filled (pos 0) size held) count (written piece) room) ∙ paste-filled size held (written piece) (count * pieceWidth) pieceWidth e refl (omega arith))
+    (sym (with-room before count (written piece) room)
+    ∙ paste-filled size held (written piece) (count * pieceWidth) pieceWidth e refl (omega arith))
     ∙ laid-filled size next (suc count) pieces (omega (arith, length-append held (written piece))) (omega arith)
     ∙ ap (filled (pos 0) size) (append-assoc held (written piece) (concat (map written pieces)))

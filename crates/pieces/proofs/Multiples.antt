@@ -1,5 +1,5 @@
 -- A multiple that lies below a vector, cell by cell: it fits, and so does what remains. Assumes nothing.
-use mathlib.Core.Path.{_≡_, refl, sym, ap, _∙_, subst}
+use mathlib.Core.Path.{_≡_, refl, sym, ap, ap₂, _∙_, subst}
 use mathlib.Core.Bool.{true}
 use mathlib.Core.List.{[], _∷_}
 use Prim.Native.Nat.{ℕ, zero, suc, _*_, _≤_, _<_}
@@ -22,7 +22,7 @@ use Rattle.theory.proofs.Bounds.{Within, within-each}
 use Rattle.theory.proofs.Times.{Multiple, times-least}
 use Rattle.vectors.proofs.Kit.{cellAt}
 use Rattle.vectors.proofs.Cells.{none-below}
-use Rattle.pieces.specs.Taking.{countLimit}
+use Rattle.pieces.specs.Taking.{countLimit, Most}
 
 -- ---- one cell
 
@@ -55,45 +55,71 @@ scale-at c [] i h = none-below h
 scale-at c (x ∷ u) zero h = refl
 scale-at c (x ∷ u) (suc i) h = scale-at c u i (omega arith)
 
-minus-at : (v u : Vector) (i : ℕ) → length v ≡ length u → i < length v → cellAt (minus v u) i ≡ cellAt v i +ℤ negℤ (cellAt u i)
+minus-at : (v u : Vector) (i : ℕ) → length v ≡ length u → i < length v
+    → cellAt (minus v u) i ≡ cellAt v i +ℤ negℤ (cellAt u i)
 unfolding minus plus negative
 minus-at [] u i e h = none-below h
 minus-at (x ∷ v) [] i e h = absurd (omega arith)
 minus-at (x ∷ v) (y ∷ u) zero e h = refl
 minus-at (x ∷ v) (y ∷ u) (suc i) e h = minus-at v u i (omega arith) (omega arith)
 
--- what the machine makes of cell i, where that multiple of u lies below v and the cells fit
-module _ (v u : Vector) (count i : ℕ) (lies : scale (pos count) u ⊑ v) (small : count ≤ countLimit) (inside : i < length v) (v-fits : SFits w32 (cellAt v i)) (u-fits : SFits w32 (cellAt u i)) where
-  long : length (scale (pos count) u) ≡ length v
-  long = ⊑-length lies
+-- cell i of v less that multiple of u, which lies below v: the cells fit
+pub record Turn (v u : Vector) (count i : ℕ) : Type 0 where
+  pub lies : scale (pos count) u ⊑ v
+  pub small : count ≤ countLimit
+  pub inside : i < length v
+  pub left-fits : SFits w32 (cellAt v i)
+  pub right-fits : SFits w32 (cellAt u i)
 
-  listed : i < length u
-  listed = omega (arith, long, length-scale (pos count) u)
+-- a number as it is read
+abbrev read : ℤ → ℤ
+read z = toZ w32 (ofZ w32 z)
 
-  product-below : CellBelow (pos count *ℤ cellAt u i) (cellAt v i)
-  product-below = subst (λ (x : ℤ). CellBelow x (cellAt v i)) (scale-at (pos count) u i listed) (below-at (scale (pos count) u) v i lies inside)
+-- what the machine makes of it
+module _ {v u : Vector} {count i : ℕ} (turn : Turn v u count i) where
+  abbrev multiple : Vector
+  multiple = scale (pos count) u
 
-  product-fits : SFits w32 (pos count *ℤ cellAt u i)
-  product-fits = below-fits (pos count *ℤ cellAt u i) (cellAt v i) product-below v-fits
+  abbrev product : ℤ
+  product = pos count *ℤ cellAt u i
 
-  rest-fits : SFits w32 (cellAt v i +ℤ negℤ (pos count *ℤ cellAt u i))
-  rest-fits = below-fits (cellAt v i +ℤ negℤ (pos count *ℤ cellAt u i)) (cellAt v i) (cell-rest product-below) v-fits
+  -- the product, as it is computed
+  abbrev computed : ℤ
+  computed = toZ w32 count *ℤ read (cellAt u i)
 
-  factor-read : toZ w32 count ≡ pos count
-  factor-read = toZ-ofZ (small-fits small)
+  long : length multiple ≡ length v
+  long = ⊑-length (turn .lies)
 
-  pub products-fit : SFits w32 (toZ w32 count *ℤ toZ w32 (ofZ w32 (cellAt u i)))
-  products-fit = rw (factor-read, toZ-ofZ u-fits) product-fits
+  product-at : cellAt multiple i ≡ product
+  product-at = scale-at (pos count) u i (omega (arith, turn .inside, long, length-scale (pos count) u))
 
-  product-read : toZ w32 (ofZ w32 (toZ w32 count *ℤ toZ w32 (ofZ w32 (cellAt u i)))) ≡ pos count *ℤ cellAt u i
-  product-read = rw (factor-read, toZ-ofZ u-fits) (toZ-ofZ product-fits)
+  product-below : CellBelow product (cellAt v i)
+  product-below =
+      subst (λ (x : ℤ). CellBelow x (cellAt v i)) product-at (below-at multiple v i (turn .lies) (turn .inside))
 
-  pub rests-fit : SFits w32 (toZ w32 (ofZ w32 (cellAt v i)) -ℤ toZ w32 (ofZ w32 (toZ w32 count *ℤ toZ w32 (ofZ w32 (cellAt u i)))))
-  rests-fit = rw (toZ-ofZ v-fits, product-read) rest-fits
+  product-fits : SFits w32 product
+  product-fits = below-fits product (cellAt v i) product-below (turn .left-fits)
 
-  pub rests-read : toZ w32 (ofZ w32 (toZ w32 (ofZ w32 (cellAt v i)) -ℤ toZ w32 (ofZ w32 (toZ w32 count *ℤ toZ w32 (ofZ w32 (cellAt u i)))))) ≡ cellAt (minus v (scale (pos count) u)) i
-  rests-read = rw (toZ-ofZ v-fits, product-read) (toZ-ofZ rest-fits)
-      ∙ ap (λ (x : ℤ). cellAt v i +ℤ negℤ x) (sym (scale-at (pos count) u i listed)) ∙ sym (minus-at v (scale (pos count) u) i (sym long) inside)
+  rest-fits : SFits w32 (cellAt v i +ℤ negℤ product)
+  rest-fits = below-fits (cellAt v i +ℤ negℤ product) (cellAt v i) (cell-rest product-below) (turn .left-fits)
+
+  computed-is : computed ≡ product
+  computed-is = ap₂ _*ℤ_ (toZ-ofZ (small-fits (turn .small))) (toZ-ofZ (turn .right-fits))
+
+  pub products-fit : SFits w32 computed
+  products-fit = rw computed-is product-fits
+
+  product-read : read computed ≡ product
+  product-read = ap read computed-is ∙ toZ-ofZ product-fits
+
+  pub rests-fit : SFits w32 (read (cellAt v i) -ℤ read computed)
+  rests-fit = rw (toZ-ofZ (turn .left-fits), product-read) rest-fits
+
+  pub rests-read : read (read (cellAt v i) -ℤ read computed) ≡ cellAt (minus v multiple) i
+  rests-read =
+      rw (toZ-ofZ (turn .left-fits), product-read) (toZ-ofZ rest-fits)
+      ∙ ap (λ (x : ℤ). cellAt v i +ℤ negℤ x) (sym product-at)
+      ∙ sym (minus-at v multiple i (sym long) (turn .inside))
 
 -- ---- how often an image is taken
 
@@ -102,13 +128,15 @@ unfolding weight
 weight-within limit each-nil = omega arith
 weight-within limit (each-cons {xs = v} k h) = omega (arith, weight-within limit h, suc-mul (length v) limit)
 
--- that multiple of an image lies below what remains, and its number is small
-module _ (u v : Vector) (count : ℕ) (u-long : length u ≡ cells) (v-long : length v ≡ cells) (limited : within splitLimit v ≡ true) (is : count ≡ times u v) where
-  least : Multiple (weight v) count u v
-  unfolding times
-  least = times-least (weight v) u v count (u-long ∙ sym v-long) (omega arith)
-
-  pub times-fit : (scale (pos count) u ⊑ v) × (count ≤ countLimit)
-  times-fit =
-      let e : length v * splitLimit ≡ cells * splitLimit = ap (λ (k : ℕ). k * splitLimit) v-long in
-      (record { test = least .lies }, omega (arith, least .most, weight-within splitLimit (within-each splitLimit v limited)))
+-- that multiple of a vector lies below the other, and its number is small
+pub times-most : (u v : Vector) (count : ℕ) → length u ≡ cells → length v ≡ cells → within splitLimit v ≡ true
+    → count ≡ times u v → Most u v count
+unfolding times
+times-most u v count u-long v-long limited is =
+    let least : Multiple (weight v) count u v = times-least (weight v) u v count (u-long ∙ sym v-long) (omega arith) in
+    let e : length v * splitLimit ≡ cells * splitLimit = ap (λ (k : ℕ). k * splitLimit) v-long in
+    record {
+      greatest = is;
+      lies = record { test = least .lies };
+      few = omega (arith, least .most, weight-within splitLimit (within-each splitLimit v limited));
+    }

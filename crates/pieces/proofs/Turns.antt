@@ -1,4 +1,5 @@
--- What one turn of the loops over positions and over rows takes, and what is taken in the end (Specification 4.1). Assumes nothing.
+-- What one turn of the loops over positions and over rows takes, and what is taken in the end (Specification 4.1).
+-- Assumes nothing.
 use mathlib.Core.Path.{_≡_, refl, sym, ap, ap₂, _∙_, subst}
 use mathlib.Core.List.{List, [], _∷_, _++_, append-assoc, append-nil}
 use Prim.Native.Nat.{ℕ, suc, _+_, _*_, _≤_, _<_}
@@ -14,6 +15,7 @@ use Rattle.definitions.specs.Group.{Exchange, exchanged}
 use Rattle.definitions.specs.Split.{Image, Piece, placedOrbit, placedOrbits, splitting}
 use Rattle.definitions.specs.Lent.{filled}
 use Rattle.theory.proofs.Lists.{row-end}
+use Rattle.pieces.specs.declared.Place.{Place}
 use Rattle.pieces.specs.declared.Taken.{Taken}
 use Rattle.pieces.specs.Taking.{laid, pair, Ready, Splits, Takes}
 use Rattle.pieces.proofs.Laying.{laid-filled}
@@ -25,24 +27,33 @@ length-front l i h = length-take-le i l (omega arith)
 
 -- ---- positions
 
+-- a row and a position
+abbrev pub placeAt : (row position : ℕ) → Place
+placeAt row position = record { row = row; position = position }
+
 -- two images for each
-orbit-length : (row from : ℕ) (table : List Exchange) (v : Vector) → length (placedOrbit row from table v) ≡ 2 * length table
+orbit-length : (row from : ℕ) (table : List Exchange) (v : Vector)
+    → length (placedOrbit row from table v) ≡ 2 * length table
 unfolding placedOrbit
 orbit-length row from [] v = refl
 orbit-length row from (s ∷ table) v = omega (arith, orbit-length row (suc from) table v)
 
 -- some positions, and then others
-orbit-append : (row from : ℕ) (table others : List Exchange) (v : Vector) → placedOrbit row from (table ++ others) v ≡ placedOrbit row from table v ++ placedOrbit row (from + length table) others v
+orbit-append : (row from : ℕ) (table others : List Exchange) (v : Vector)
+    → placedOrbit row from (table ++ others) v
+    ≡ placedOrbit row from table v ++ placedOrbit row (from + length table) others v
 unfolding placedOrbit
 orbit-append row from [] others v = ap (λ (k : ℕ). placedOrbit row k others v) (sym (add-zero from))
 orbit-append row from (s ∷ table) others v =
     let e : suc from + length table ≡ from + suc (length table) = omega arith in
-    ap (λ (l : List Image). pair row from (exchanged s v) ++ l)
-    (orbit-append row (suc from) table others v ∙ ap (λ (k : ℕ). placedOrbit row (suc from) table v ++ placedOrbit row k others v) e)
+    ap (λ (l : List Image). pair (placeAt row from) (exchanged s v) ++ l)
+    (orbit-append row (suc from) table others v
+    ∙ ap (λ (k : ℕ). placedOrbit row (suc from) table v ++ placedOrbit row k others v) e)
 
 module _ (row : ℕ) (table : List Exchange) (v : Vector) (p : ℕ) (left : p < length table) where
   -- one position more
-  orbit-more : placedOrbit row 0 (take (p + 1) table) v ≡ placedOrbit row 0 (take p table) v ++ pair row p (exchanged (getD table p []) v)
+  orbit-more : placedOrbit row 0 (take (p + 1) table) v
+      ≡ placedOrbit row 0 (take p table) v ++ pair (placeAt row p) (exchanged (getD table p []) v)
   unfolding placedOrbit
   orbit-more =
       let e : 0 + length (take p table) ≡ p = omega (arith, length-front table p left) in
@@ -51,22 +62,31 @@ module _ (row : ℕ) (table : List Exchange) (v : Vector) (p : ℕ) (left : p < 
       ∙ orbit-append row 0 (take p table) (getD table p [] ∷ []) v
       ∙ ap (λ (k : ℕ). placedOrbit row 0 (take p table) v ++ placedOrbit row k (getD table p [] ∷ []) v) e
 
-  module _ {t r : Taken} {first second : List ℤ} (done : Takes (placedOrbit row 0 (take p table) v) t first second r) where
+  -- the positions up to p are done
+  abbrev OrbitDone : (t : Taken) (first second : List ℤ) (r : Taken) → Type 0
+  OrbitDone t first second r = Takes (placedOrbit row 0 (take p table) v) t first second r
+
+  module _ {t r : Taken} {first second : List ℤ} (done : OrbitDone t first second r) where
     -- there is room for two images more
     pub ready-position : {g : ℕ} → length table ≡ g → Ready (2 * g) t → Ready 2 r
-    ready-position {g} e h = ready-after 2 (2 * g) (omega (arith, orbit-length row 0 (take p table) v, length-front table p left)) h done
+    ready-position {g} e h =
+        let l = orbit-length row 0 (take p table) v in
+        ready-after 2 (2 * g) (omega (arith, length-front table p left)) h done
 
     -- and they are taken
-    pub takes-position : (u : Vector) → u ≡ exchanged (getD table p []) v → {s : Taken} {third : List ℤ} → Takes (pair row p u) r second third s → Takes (placedOrbit row 0 (take (p + 1) table) v) t first third s
+    pub takes-position : (u : Vector) → u ≡ exchanged (getD table p []) v → {s : Taken} {third : List ℤ}
+        → Takes (pair (placeAt row p) u) r second third s
+        → Takes (placedOrbit row 0 (take (p + 1) table) v) t first third s
     takes-position u e {s} {third} a =
         subst (λ (l : List Image). Takes l t first third s)
-        (ap (λ (u : Vector). placedOrbit row 0 (take p table) v ++ pair row p u) e ∙ sym orbit-more)
+        (ap (λ (u : Vector). placedOrbit row 0 (take p table) v ++ pair (placeAt row p) u) e ∙ sym orbit-more)
         (takes-append done a)
 
 -- ---- rows
 
 -- two images for each row and position
-orbits-length : (row : ℕ) (table : List Exchange) (rows : List Vector) → length (placedOrbits row table rows) ≡ length rows * (2 * length table)
+orbits-length : (row : ℕ) (table : List Exchange) (rows : List Vector)
+    → length (placedOrbits row table rows) ≡ length rows * (2 * length table)
 unfolding placedOrbits
 orbits-length row table [] = omega arith
 orbits-length row table (v ∷ rows) =
@@ -79,18 +99,22 @@ orbits-length row table (v ∷ rows) =
     )
 
 -- some rows, and then others
-orbits-append : (row : ℕ) (table : List Exchange) (rows others : List Vector) → placedOrbits row table (rows ++ others) ≡ placedOrbits row table rows ++ placedOrbits (row + length rows) table others
+orbits-append : (row : ℕ) (table : List Exchange) (rows others : List Vector)
+    → placedOrbits row table (rows ++ others)
+    ≡ placedOrbits row table rows ++ placedOrbits (row + length rows) table others
 unfolding placedOrbits
 orbits-append row table [] others = ap (λ (k : ℕ). placedOrbits k table others) (sym (add-zero row))
 orbits-append row table (v ∷ rows) others =
     let e : suc row + length rows ≡ row + suc (length rows) = omega arith in
+    let mine = placedOrbits (suc row) table rows in
     ap (λ (l : List Image). placedOrbit row 0 table v ++ l)
-    (orbits-append (suc row) table rows others ∙ ap (λ (k : ℕ). placedOrbits (suc row) table rows ++ placedOrbits k table others) e)
-    ∙ sym (append-assoc (placedOrbit row 0 table v) (placedOrbits (suc row) table rows) (placedOrbits (row + suc (length rows)) table others))
+    (orbits-append (suc row) table rows others ∙ ap (λ (k : ℕ). mine ++ placedOrbits k table others) e)
+    ∙ sym (append-assoc (placedOrbit row 0 table v) mine (placedOrbits (row + suc (length rows)) table others))
 
 module _ (table : List Exchange) (rows : List Vector) (i : ℕ) (left : i < length rows) where
   -- one row more
-  orbits-more : placedOrbits 0 table (take (i + 1) rows) ≡ placedOrbits 0 table (take i rows) ++ placedOrbit i 0 table (getD rows i [])
+  orbits-more : placedOrbits 0 table (take (i + 1) rows)
+      ≡ placedOrbits 0 table (take i rows) ++ placedOrbit i 0 table (getD rows i [])
   unfolding placedOrbits
   orbits-more =
       let e : 0 + length (take i rows) ≡ i = omega (arith, length-front rows i left) in
@@ -98,30 +122,41 @@ module _ (table : List Exchange) (rows : List Vector) (i : ℕ) (left : i < leng
       ∙ ap (placedOrbits 0 table) (take-suc rows i [] left)
       ∙ orbits-append 0 table (take i rows) (getD rows i [] ∷ [])
       ∙ ap (λ (k : ℕ). placedOrbits 0 table (take i rows) ++ (placedOrbit k 0 table (getD rows i []) ++ [])) e
-      ∙ ap (λ (l : List Image). placedOrbits 0 table (take i rows) ++ l) (append-nil (placedOrbit i 0 table (getD rows i [])))
+      ∙ ap (λ (l : List Image). placedOrbits 0 table (take i rows) ++ l)
+      (append-nil (placedOrbit i 0 table (getD rows i [])))
 
-  module _ {t r : Taken} {first second : List ℤ} (done : Takes (placedOrbits 0 table (take i rows)) t first second r) where
+  -- the rows up to i are done
+  abbrev OrbitsDone : (t : Taken) (first second : List ℤ) (r : Taken) → Type 0
+  OrbitsDone t first second r = Takes (placedOrbits 0 table (take i rows)) t first second r
+
+  module _ {t r : Taken} {first second : List ℤ} (done : OrbitsDone t first second r) where
     -- there is room for the images of a row more
     pub ready-row : {k g : ℕ} → length rows ≡ k → length table ≡ g → Ready (k * (2 * g)) t → Ready (2 * g) r
     ready-row {k} {g} e f h =
-        let before : length (placedOrbits 0 table (take i rows)) ≡ i * (2 * g) = orbits-length 0 table (take i rows) ∙ ap₂ (λ (a b : ℕ). a * (2 * b)) (length-front rows i left) f in
+        let before : length (placedOrbits 0 table (take i rows)) ≡ i * (2 * g) =
+        orbits-length 0 table (take i rows) ∙ ap₂ (λ (a b : ℕ). a * (2 * b)) (length-front rows i left) f in
         ready-after (2 * g) (k * (2 * g)) (omega (arith, before, row-end i k (2 * g) (omega arith))) h done
 
     -- and they are taken
-    pub takes-row : (v : Vector) → v ≡ getD rows i [] → {s : Taken} {third : List ℤ} → Takes (placedOrbit i 0 table v) r second third s → Takes (placedOrbits 0 table (take (i + 1) rows)) t first third s
+    pub takes-row : (v : Vector) → v ≡ getD rows i [] → {s : Taken} {third : List ℤ}
+        → Takes (placedOrbit i 0 table v) r second third s
+        → Takes (placedOrbits 0 table (take (i + 1) rows)) t first third s
     takes-row v e {s} {third} a =
         subst (λ (l : List Image). Takes l t first third s)
         (ap (λ (v : Vector). placedOrbits 0 table (take i rows) ++ placedOrbit i 0 table v) e ∙ sym orbits-more)
         (takes-append done a)
 
 -- ---- all images taken from v, with an area that was cleared first
-pub takes-all : {images : List Image} (v : Vector) (size : ℕ) {cleared area : List ℤ} {r : Taken} → cleared ≡ filled (pos 0) size [] → Takes images (record { rest = v; count = 0 }) cleared area r → Splits images v size area r
+pub takes-all : {images : List Image} (v : Vector) (size : ℕ) {cleared area : List ℤ} {r : Taken}
+    → cleared ≡ filled (pos 0) size [] → Takes images (record { rest = v; count = 0 }) cleared area r
+    → Splits images v size area r
 takes-all {images} v size {area = area} {r = r} e a = record {
   rest = a .remains;
   count = count-is;
   lies = whole;
   held = λ h.
-      let room : length pieces * pieceWidth ≤ size = le-div-iff-mul-le (let p : 0 < pieceWidth = omega arith in p) .0 (omega (arith, count-is)) in
+      let wide : 0 < pieceWidth = omega arith in
+      let room : length pieces * pieceWidth ≤ size = le-div-iff-mul-le wide .0 (omega (arith, count-is)) in
       whole ∙ laid-filled size [] 0 pieces (omega arith) (omega arith);
 }
   where

@@ -1,4 +1,5 @@
-// The pieces of a vector: the images of the listed rows are taken from it in turn, and each piece is written to a lent area (Specification 4.1).
+// The pieces of a vector: the images of the listed rows are taken from it in turn, and each piece is written to a lent
+// area (Specification 4.1).
 ghost use mathlib.Core.Path.{_≡_};
 ghost use mathlib.Core.Bool.{true};
 ghost use mathlib.Core.List.{[], _∷_};
@@ -7,16 +8,17 @@ ghost use lib.IntN.{pos};
 ghost use lib.ListN.{length};
 ghost use Rattle.definitions.specs.Limits.{groupLimit, listLimit, splitLimit};
 ghost use Rattle.definitions.specs.Vector.{minus, scale, within};
-ghost use Rattle.definitions.specs.Split.{placedOrbit, placedOrbits, sign};
-ghost use Rattle.definitions.specs.Lent.{chunks};
+ghost use Rattle.definitions.specs.Split.{placedOrbit, sign};
 ghost use Rattle.theory.proofs.Below.{_⊑_};
 ghost use Rattle.vectors.specs.Bounds.{headroom};
-ghost use Rattle.reduction.specs.Areas.{rowsAt, Table, Area};
-ghost use Rattle.pieces.specs.Taking.{imageAt, pair, countLimit, fourNumbers, withNumbers, Ready, Takes, Splits};
-use ordering::clear;
+ghost use Rattle.reduction.specs.Areas.{sequencesIn, Table};
+ghost use Rattle.pieces.specs.Taking.{countLimit, fourNumbers, imageAt, imagesIn, pair, withNumbers};
+ghost use Rattle.pieces.specs.Taking.{Listed, Most, Placed, Ready, Splits, Takes};
+use definitions::limits::CELLS;
+use definitions::limits::PIECE_WIDTH;
+use reduction::Shape;
 use reduction::image_at;
-use refusals::limits::PIECE_WIDTH;
-use vectors::CELLS;
+use vectors::clear;
 use vectors::load;
 use vectors::negative;
 use vectors::store;
@@ -28,10 +30,25 @@ pub struct Taken {
     pub count: usize,
 }
 
+// The place of an image and its negative: the row, and the position in the table.
+struct Place {
+    row: usize,
+    position: usize,
+}
+
+// How often `u` is taken from `v`: the greatest number for which that multiple of it lies below `v`.
+fn most_below(u: [i32; CELLS], v: [i32; CELLS]) -> u64
+    requires limited { ⌜ within splitLimit v ≡ true ⌝ }
+    ensures most { λ r. ⌜ Most u v r ⌝ }
+{
+    times(u, v)
+}
+
 // `v` less `count` times `u`: that multiple lies below `v`, so every number in between fits.
 fn less_multiple(v: [i32; CELLS], u: [i32; CELLS], count: u64) -> [i32; CELLS]
-    requires { ⌜ (scale (pos count) u ⊑ v) × (count ≤ countLimit) ⌝ }
-    ensures { λ r. ⌜ r ≡ minus v (scale (pos count) u) ⌝ }
+    requires lies { ⌜ scale (pos count) u ⊑ v ⌝ }
+    requires few { ⌜ count ≤ countLimit ⌝ }
+    ensures rest { λ r. ⌜ r ≡ minus v (scale (pos count) u) ⌝ }
 {
     let factor = count as i32;
     let mut w = [0; CELLS];
@@ -45,27 +62,24 @@ fn less_multiple(v: [i32; CELLS], u: [i32; CELLS], count: u64) -> [i32; CELLS]
 
 // 1 for an image itself, and −1 for its negative.
 fn sign(positive: bool) -> i32
-    ensures { λ r. ⌜ r ≡ sign positive ⌝ }
+    ensures sign { λ r. ⌜ r ≡ sign positive ⌝ }
 {
     if positive { 1 } else { -1 }
 }
 
 // Writes the four numbers of piece `k`, where the area has room for them.
-fn write_piece(
-    pieces: &mut [i32],
-    k: usize,
-    row: usize,
-    position: usize,
-    positive: bool,
-    count: u64,
-)
-    requires { ⌜ (row < listLimit) × (position < groupLimit) × (count ≤ countLimit) ⌝ }
-    ensures { λ _. ⌜ now (pieces .exit) ≡ withNumbers (now (pieces .entry)) k (fourNumbers row position positive count) ⌝ }
+fn write_piece(pieces: &mut [i32], k: usize, place: Place, positive: bool, count: u64)
+    requires placed { ⌜ Placed place ⌝ }
+    requires few { ⌜ count ≤ countLimit ⌝ }
+    ensures written { λ _. ⌜
+        (let numbers = fourNumbers place positive count in
+        now (pieces .exit) ≡ withNumbers (now (pieces .entry)) k numbers)
+        ⌝ }
 {
     if k < pieces.len() / PIECE_WIDTH {
         let mut numbers = [0; CELLS];
-        numbers[0] = row as i32;
-        numbers[1] = position as i32;
+        numbers[0] = place.row as i32;
+        numbers[1] = place.position as i32;
         numbers[2] = sign(positive);
         numbers[3] = count as i32;
         store(pieces, k * PIECE_WIDTH, PIECE_WIDTH, numbers);
@@ -76,23 +90,25 @@ fn write_piece(
 fn take_image(
     t: Taken,
     image: [i32; CELLS],
-    row: usize,
-    position: usize,
+    place: Place,
     positive: bool,
     pieces: &mut [i32],
 ) -> Taken
-    requires { ⌜ Ready 1 t ⌝ }
-    requires { ⌜ (row < listLimit) × (position < groupLimit) ⌝ }
-    ensures { λ r. ⌜ Takes (imageAt row position positive image ∷ []) t (now (pieces .entry)) (now (pieces .exit)) r ⌝ }
+    requires ready { ⌜ Ready 1 t ⌝ }
+    requires placed { ⌜ Placed place ⌝ }
+    ensures taken { λ r. ⌜
+        (let images = imageAt place positive image ∷ [] in
+        Takes images t (now (pieces .entry)) (now (pieces .exit)) r)
+        ⌝ }
 {
     let rest = t.rest;
     let found = t.count;
-    let count = times(image, rest);
+    let count = most_below(image, rest);
     if count == 0 {
         return t;
     }
     let less = less_multiple(rest, image, count);
-    write_piece(pieces, found, row, position, positive, count);
+    write_piece(pieces, found, place, positive, count);
     let more = found + 1;
     Taken {
         rest: less,
@@ -101,20 +117,14 @@ fn take_image(
 }
 
 // An image is taken, and then its negative.
-fn take_both(
-    t: Taken,
-    image: [i32; CELLS],
-    row: usize,
-    position: usize,
-    pieces: &mut [i32],
-) -> Taken
-    requires { ⌜ Ready 2 t ⌝ }
-    requires { ⌜ (row < listLimit) × (position < groupLimit) ⌝ }
-    requires { ⌜ within headroom image ≡ true ⌝ }
-    ensures { λ r. ⌜ Takes (pair row position image) t (now (pieces .entry)) (now (pieces .exit)) r ⌝ }
+fn take_both(t: Taken, image: [i32; CELLS], place: Place, pieces: &mut [i32]) -> Taken
+    requires ready { ⌜ Ready 2 t ⌝ }
+    requires placed { ⌜ Placed place ⌝ }
+    requires limited { ⌜ within headroom image ≡ true ⌝ }
+    ensures taken { λ r. ⌜ Takes (pair place image) t (now (pieces .entry)) (now (pieces .exit)) r ⌝ }
 {
-    let once = take_image(t, image, row, position, true, pieces);
-    take_image(once, negative(image), row, position, false, pieces)
+    let once = take_image(t, image, place, true, pieces);
+    take_image(once, negative(image), place, false, pieces)
 }
 
 // The images of `v`, which is row `row`, are taken position by position.
@@ -123,20 +133,24 @@ fn take_row(
     v: [i32; CELLS],
     row: usize,
     table: &[u8],
-    n: usize,
-    g: usize,
+    shape: Shape,
     pieces: &mut [i32],
 ) -> Taken
-    requires { ⌜ Table n g (now table) ⌝ }
-    requires { ⌜ Ready (2 * g) t ⌝ }
-    requires { ⌜ (row < listLimit) × (g ≤ groupLimit) × (within headroom v ≡ true) ⌝ }
-    ensures { λ r. ⌜ Takes (placedOrbit row 0 (chunks n g (now (table .entry))) v) t (now (pieces .entry)) (now (pieces .exit)) r ⌝ }
+    requires shaped { ⌜ Table shape (now table) ⌝ }
+    requires ready { ⌜ Ready (2 * shape .g) t ⌝ }
+    requires placed { ⌜ (row < listLimit) × (shape .g ≤ groupLimit) ⌝ }
+    requires limited { ⌜ within headroom v ≡ true ⌝ }
+    ensures taken { λ r. ⌜
+        (let images = placedOrbit row 0 (sequencesIn shape (now (table .entry))) v in
+        Takes images t (now (pieces .entry)) (now (pieces .exit)) r)
+        ⌝ }
 {
     let mut taken = t;
     let mut p = 0;
-    while p < g {
-        let image = image_at(v, table, n, g, p);
-        let next = take_both(taken, image, row, p, pieces);
+    while p < shape.g {
+        let image = image_at(v, table, shape, p);
+        let place = Place { row, position: p };
+        let next = take_both(taken, image, place, pieces);
         taken = next;
         p += 1;
     }
@@ -147,44 +161,48 @@ fn take_row(
 fn take_rows(
     t: Taken,
     list: &[i32],
-    n: usize,
     k: usize,
     table: &[u8],
-    g: usize,
+    shape: Shape,
     pieces: &mut [i32],
 ) -> Taken
-    requires { ⌜ Table n g (now table) ⌝ }
-    requires { ⌜ Area n k (now list) ⌝ }
-    requires { ⌜ Ready (k * (2 * g)) t ⌝ }
-    requires { ⌜ (k ≤ listLimit) × (g ≤ groupLimit) ⌝ }
-    ensures { λ r. ⌜ Takes (placedOrbits 0 (chunks n g (now (table .entry))) (rowsAt n k (now (list .entry)))) t (now (pieces .entry)) (now (pieces .exit)) r ⌝ }
+    requires listed { ⌜ Listed shape k (now table) (now list) ⌝ }
+    requires ready { ⌜ Ready (k * (2 * shape .g)) t ⌝ }
+    ensures taken { λ r. ⌜
+        (let images = imagesIn shape k (now (table .entry)) (now (list .entry)) in
+        Takes images t (now (pieces .entry)) (now (pieces .exit)) r)
+        ⌝ }
 {
+    let n = shape.n;
     let mut taken = t;
     let mut i = 0;
     while i < k {
-        let next = take_row(taken, load(list, i * n, n), i, table, n, g, pieces);
+        let row = load(list, i * n, n);
+        let next = take_row(taken, row, i, table, shape, pieces);
         taken = next;
         i += 1;
     }
     taken
 }
 
-// The pieces of `v`: the images of `k` rows are taken from it in turn, and each piece is written where there is room (Specification 4.1).
+// The pieces of `v`: the images of `k` rows are taken from it in turn, and each piece is written where there is room
+// (Specification 4.1).
 pub fn split_rows(
     v: [i32; CELLS],
     list: &[i32],
-    n: usize,
     k: usize,
     table: &[u8],
-    g: usize,
+    shape: Shape,
     pieces: &mut [i32],
 ) -> Taken
-    requires { ⌜ Table n g (now table) ⌝ }
-    requires { ⌜ Area n k (now list) ⌝ }
-    requires { ⌜ (within splitLimit v ≡ true) × (k ≤ listLimit) × (g ≤ groupLimit) ⌝ }
-    ensures { λ r. ⌜ Splits (placedOrbits 0 (chunks n g (now (table .entry))) (rowsAt n k (now (list .entry)))) v (length (now (pieces .entry))) (now (pieces .exit)) r ⌝ }
+    requires listed { ⌜ Listed shape k (now table) (now list) ⌝ }
+    requires limited { ⌜ within splitLimit v ≡ true ⌝ }
+    ensures split { λ r. ⌜
+        (let images = imagesIn shape k (now (table .entry)) (now (list .entry)) in
+        Splits images v (length (now (pieces .entry))) (now (pieces .exit)) r)
+        ⌝ }
 {
     clear(pieces, 0);
     let whole = Taken { rest: v, count: 0 };
-    take_rows(whole, list, n, k, table, g, pieces)
+    take_rows(whole, list, k, table, shape, pieces)
 }

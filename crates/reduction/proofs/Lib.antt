@@ -1,5 +1,4 @@
 -- Laws that the proofs of the functions on images share, and those that callers cite.
-pub mod Cellwise
 pub mod Lent
 pub mod Marking
 pub mod Passes

@@ -1,4 +1,3 @@
 -- Laws that the proofs of the tests share, and what passed tests give to those that follow.
 pub mod Turns
-pub mod Rows
 pub mod Passed

@@ -1,19 +1,20 @@
-// Works the sample orders of Specification 10 by the lent calls, and prints the name and the answer of each. The file `stdout`, with which
-// the check compares this, was not made by a run: the answers are those of the specification's table, laid out by its section 9. The 15 rows
-// of 14, which the table only counts, come from a search through all 3 by 3 tables with zero sums and no entry past 3, and 4ti2's `graver`
-// gives the same: each has the sign that makes it the greater of the two (2.6), and they stand in list order (2.7).
+// Works the sample orders of Specification 10 by the lent calls, and prints the name and the answer of each. The file
+// `stdout`, with which the check compares this, was not made by a run: the answers are those of the specification's
+// table, laid out by its section 9. The 15 rows of 14, which the table only counts, come from a search through all 3 by
+// 3 tables with zero sums and no entry past 3 (`minimal_tables` in tests/tables.py): the minimal ones, each with the
+// sign that makes it the greater of the two (2.6), sorted (2.7). 4ti2's `graver` gives the same.
 ghost use mathlib.Core.Path.{_≡_};
 ghost use Prim.Native.Nat.{_≤_, _<_};
 ghost use Rattle.definitions.specs.Limits.{cells};
 ghost use Rattle.answers.specs.Answers.{lineCount};
-use answers::TEXT_LIMIT;
+use answers::lengths::TEXT_LIMIT;
 use definitions::Answer;
-use refusals::limits::ENTRY_LIMIT;
-use refusals::limits::GROUP_LIMIT;
-use refusals::limits::LENT_PIECES;
-use refusals::limits::LIST_LIMIT;
-use refusals::limits::PIECE_WIDTH;
-use vectors::CELLS;
+use definitions::limits::CELLS;
+use definitions::limits::ENTRY_LIMIT;
+use definitions::limits::GROUP_LIMIT;
+use definitions::limits::LENT_PIECES;
+use definitions::limits::LIST_LIMIT;
+use definitions::limits::PIECE_WIDTH;
 
 // The list rows that programs lend (Specification 1.2), for the most cells.
 const LIST_AREA: usize = LIST_LIMIT * CELLS;
@@ -40,19 +41,19 @@ const EXCHANGE_4: [u8; 3] = [3, 2, 1];
 
 // The lines of numbers that the text of an answer has.
 fn line_count(answer: Answer) -> u64
-    ensures { λ r. ⌜ r ≡ lineCount answer ⌝ }
+    ensures lines { λ r. ⌜ r ≡ lineCount answer ⌝ }
 {
     match answer {
         Answer::Moves {
             rows,
-            order,
+            members,
             stored,
             sums,
         } => rows,
         Answer::Split {
             pieces,
             rows,
-            order,
+            members,
             stored,
             sums,
         } => pieces,
@@ -61,10 +62,11 @@ fn line_count(answer: Answer) -> u64
     }
 }
 
-// Prints the name of a sample and the text of its answer (Specification 9). Both tests are always met: the area of an accepted call holds as
-// many rows as the answer counts, and no text is longer. If one were not met, the missing text would show against `stdout`.
+// Prints the name of a sample and the text of its answer (Specification 9). Both tests are always met: the area of an
+// accepted call holds as many rows as the answer counts, and no text is longer. If one were not met, the missing text
+// would show against `stdout`.
 fn show(name: &[u8], answer: Answer, numbers: &[i32], width: usize)
-    requires { ⌜ 1 ≤ width ⌝ }
+    requires some { ⌜ 1 ≤ width ⌝ }
 {
     io::write_all(1, name);
     let lines = line_count(answer) as usize;
@@ -86,7 +88,7 @@ fn list_in(
     list: &mut [i32],
     group: &mut [u8],
 )
-    requires { ⌜ 1 ≤ n ⌝ }
+    requires some { ⌜ 1 ≤ n ⌝ }
 {
     let answer = moves::list(n, generators, exchanges, &mut *list, &mut *group);
     show(name, answer, &*list, n);
@@ -94,7 +96,7 @@ fn list_in(
 
 // A List on the areas that programs lend.
 fn list(name: &[u8], n: usize, generators: &[i32], exchanges: &[u8])
-    requires { ⌜ (1 ≤ n) × (n ≤ cells) ⌝ }
+    requires sized { ⌜ (1 ≤ n) × (n ≤ cells) ⌝ }
 {
     let mut list = [0i32; LIST_AREA];
     let mut group = [0u8; GROUP_AREA];
@@ -112,7 +114,7 @@ fn list(name: &[u8], n: usize, generators: &[i32], exchanges: &[u8])
 
 // A Split without exchanges, on the areas that programs lend.
 fn split(name: &[u8], n: usize, generators: &[i32], vector: &[i32])
-    requires { ⌜ n ≤ cells ⌝ }
+    requires sized { ⌜ n ≤ cells ⌝ }
 {
     let mut list = [0i32; LIST_AREA];
     let mut group = [0u8; GROUP_AREA];
@@ -133,7 +135,7 @@ fn split(name: &[u8], n: usize, generators: &[i32], vector: &[i32])
 
 // A Check without exchanges, on the area that programs lend. The answer has no lines of numbers.
 fn check(name: &[u8], n: usize, generators: &[i32], rows: &[i32], coefficients: &[i64])
-    requires { ⌜ n ≤ cells ⌝ }
+    requires sized { ⌜ n ≤ cells ⌝ }
 {
     let mut group = [0u8; GROUP_AREA];
     let table = GROUP_LIMIT * n;
@@ -230,7 +232,7 @@ fn p12() {
 
 // Writes generator k of the 3 by 3 table: the move of the rows a and c and the columns b and d (Specification 10).
 fn put_move(generators: &mut [i32; 81], k: usize, a: usize, c: usize, b: usize, d: usize)
-    requires { ⌜ (k < 9) × (a < 3) × (c < 3) × (b < 3) × (d < 3) ⌝ }
+    requires within { ⌜ (k < 9) × (a < 3) × (c < 3) × (b < 3) × (d < 3) ⌝ }
 {
     generators[9 * k + 3 * a + b] = 1;
     generators[9 * k + 3 * a + d] = -1;

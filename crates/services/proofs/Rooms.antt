@@ -1,9 +1,21 @@
 -- What an accepted file lends fits in areas for any order (Specification 6). Assumes nothing.
-use Prim.Native.Nat.{_*_, _≤_}
+use mathlib.Core.Path.{_≡_}
+use mathlib.Core.List.{List}
+use Prim.Native.Nat.{ℕ, _*_, _≤_}
 use native.Mathlib.Nat.{mul-le-mul}
+use native.Mathlib.Omega.{arith}
+use lib.IntN.{ℤ}
+use lib.ListN.{length}
 use Rattle.definitions.specs.Limits.{cells, exchangeLimit, generatorLimit, listLimit}
+use Rattle.orders.specs.declared.Service.{Service}
+use Rattle.orders.specs.declared.Service.the-variants.{List as ListService, Split as SplitService}
+use Rattle.orders.specs.declared.Service.the-variants.{Check as CheckService}
 use Rattle.orders.specs.declared.Counts.{Counts}
-use Rattle.orders.specs.Operands.{Limited}
+use Rattle.orders.specs.declared.Scanned.the-variants.{Counted as Accepted}
+use Rattle.orders.specs.Scan.{scanOf}
+use Rattle.orders.specs.Operands.{Limited, headOf, lengthOf}
+use Rattle.orders.proofs.Scans.{accepted}
+use Rattle.services.specs.Answered.{OrderFits}
 
 module _ (c : Counts) (h : Limited c) where
   -- the generators
@@ -21,3 +33,16 @@ module _ (c : Counts) (h : Limited c) where
   -- their coefficients
   pub coefficients-room : c .rows * c .generators ≤ listLimit * generatorLimit
   coefficients-room = mul-le-mul (h .rows-ok) (h .generators-ok)
+
+-- and so do the generators and the exchanges of an accepted file
+pub order-fits : (v : Service) (file : List ℕ) (c : Counts) {generators : List ℤ} {exchanges : List ℕ}
+    → scanOf v file ≡ Accepted c → generatorLimit * cells ≤ length generators
+    → exchangeLimit * cells ≤ length exchanges → OrderFits file c generators exchanges
+order-fits v file c e g x =
+    let A = accepted v file c e in
+    record { limited = A .limited; long = head-first v (A .long); generatorsFit = g; exchangesFit = x }
+  where
+    head-first : (v : Service) → length file ≡ lengthOf v c → headOf c ≤ length file
+    head-first ListService h = omega arith
+    head-first SplitService h = omega arith
+    head-first CheckService h = omega arith

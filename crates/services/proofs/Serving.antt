@@ -12,24 +12,26 @@ use Rattle.definitions.specs.declared.Fault.the-variants.{None, At}
 use Rattle.definitions.specs.Limits.{cells, pieceWidth}
 use Rattle.definitions.specs.Lists.{concat}
 use Rattle.definitions.specs.Split.{Piece, written}
-use Rattle.definitions.specs.Lent.{Order, chunks, filled, tableOf}
+use Rattle.definitions.specs.Lent.{Order, chunks, filled, orderOf, tableOf}
 use Rattle.definitions.specs.Refusals.{Outcome, accepted, refused}
-use Rattle.definitions.specs.Calls.{ListEnd, Listing, Parts, SplitEnd, CheckEnd, checkCall, checkEnd, checkFault, listCall, listEnd, listing, parts, splitCall, splitEnd}
+use Rattle.definitions.specs.Calls.{ListEnd, Listing, Parts, SplitEnd, CheckEnd, checkCall, checkEnd, checkFault}
+use Rattle.definitions.specs.Calls.{listCall, listEnd, listing, parts, splitCall, splitEnd}
 use Rattle.theory.proofs.Lists.{length-concat, map-inv}
 use Rattle.theory.proofs.ListCall.{listing-facts}
 use Rattle.theory.proofs.Held.{held-room, rows-narrow}
 use Rattle.theory.proofs.Rows.{chunks-front}
 use Rattle.moves.specs.Promise.{CheckPromise, ListPromise, SplitPromise}
 use Rattle.orders.specs.declared.Service.{Service}
-use Rattle.orders.specs.declared.Service.the-variants.{List as ListService, Split as SplitService, Check as CheckService}
+use Rattle.orders.specs.declared.Service.the-variants.{List as ListService, Split as SplitService}
+use Rattle.orders.specs.declared.Service.the-variants.{Check as CheckService}
 use Rattle.orders.specs.declared.Counts.{Counts}
 use Rattle.orders.specs.declared.Scanned.{Scanned}
-use Rattle.orders.specs.declared.Scanned.the-variants.{Order as Accepted, Refused as RefusedFile}
+use Rattle.orders.specs.declared.Scanned.the-variants.{Counted as Accepted, Refused as RefusedFile}
 use Rattle.orders.specs.Scan.{scanOf}
 use Rattle.orders.specs.Operands.{coefficientsIn, rowsIn, vectorIn}
 use Rattle.answers.specs.Answers.{lineCount}
-use Rattle.files.specs.Services.{Served, groupSize, listSize, orderIn, piecesSize, served, servedBy}
-use Rattle.files.proofs.Orders.{piece-wide}
+use Rattle.promises.specs.Services.{Served, groupSize, listSize, orderIn, piecesSize, served, servedBy}
+use Rattle.promises.proofs.Orders.{piece-wide}
 use Rattle.services.specs.Answered.{OrderRead, Serves}
 
 -- rows that lie in the first of two lists
@@ -40,20 +42,19 @@ first-chunks {A} n k a b h =
     ∙ chunks-front n k a (drop (k * n) a ++ b) h
 
 -- an answer that has no lines
-none : {due : Served} {answer : Answer} (width : ℕ) (area : List ℤ) → answer ≡ due .answer → lineCount (due .answer) ≡ 0 → due .lines ≡ [] → Serves due answer width area
+none : {due : Served} {answer : Answer} (width : ℕ) (area : List ℤ) → answer ≡ due .answer
+    → lineCount (due .answer) ≡ 0 → due .lines ≡ [] → Serves due answer width area
 unfolding chunks
 none {due} {answer} width area e z l =
     let q : lineCount answer ≡ 0 = ap lineCount e ∙ z in
-    record { answers = e; lines = ap (λ (k : ℕ). chunks width k area) q ∙ sym l; room = subst⁻¹ (λ (k : ℕ). k * width ≤ length area) q (omega arith) }
+    record
+    { answers = e; lines = ap (λ (k : ℕ). chunks width k area) q ∙ sym l; room = subst⁻¹ (λ (k : ℕ). k * width ≤ length area) q (omega arith) }
 
 -- ---- orders
 
--- the order of some numbers
-abbrev orderOf : (n : ℕ) (generators : List ℤ) (exchanges : List ℕ) → Order
-orderOf n generators exchanges = record { n = n; generators = generators; exchanges = exchanges }
-
 -- the order that is lent
-pub order-read : (file : List ℕ) (c : Counts) {generators : List ℤ} {exchanges : List ℕ} → OrderRead file c generators exchanges
+pub order-read : (file : List ℕ) (c : Counts) {generators : List ℤ} {exchanges : List ℕ}
+    → OrderRead file c generators exchanges
     → orderOf (c .cells) (take (c .generators * c .cells) generators) (take (c .exchanges * c .cells) exchanges) ≡ orderIn file c
 order-read file c R = ap₂ (orderOf (c .cells)) (R .generatorsAre) (R .exchangesAre)
 
@@ -68,10 +69,13 @@ list-room order listSize groupSize fits = go (listing order listSize groupSize) 
     go : (o : Outcome Listing) → listing order listSize groupSize ≡ o
         → lineCount (listEnd (order .n) listSize groupSize o .answer) * order .n ≤ length (listEnd (order .n) listSize groupSize o .list)
     go (refused number place) e = omega arith
-    go (accepted found) e = held-room (order .n) fits (found .rows) (rows-narrow order found (listing-facts order listSize groupSize found e)) listSize refl
+    go (accepted found) e =
+        held-room (order .n) fits (found .rows)
+        (rows-narrow order found (listing-facts order listSize groupSize found e)) listSize refl
 
 -- LIST on an accepted file: the area may go on
-pub list-serves : (file : List ℕ) (c : Counts) {order : Order} {size group : ℕ} {answer : Answer} {list : List ℤ} {table : List ℕ} (rest : List ℤ) → c .cells ≤ cells
+pub list-serves : (file : List ℕ) (c : Counts) {order : Order} {size group : ℕ} {answer : Answer} {list : List ℤ} {table : List ℕ} (rest : List ℤ)
+    → c .cells ≤ cells
     → ListPromise order size group answer list table → order ≡ orderIn file c → size ≡ listSize c → group ≡ groupSize c
     → Serves (servedBy ListService file (Accepted c)) answer (c .cells) (list ++ rest)
 unfolding servedBy
@@ -80,10 +84,14 @@ list-serves file c {order} {size} {group} {answer} {list} rest fits P e s g =
     let same : listCall order size group ≡ due = rw (e, s, g) in
     let says = P .answers ∙ ap (λ (x : ListEnd). x .answer) same in
     let holds = P .listHolds ∙ ap (λ (x : ListEnd). x .list) same in
-    let room : lineCount answer * c .cells ≤ length list = subst⁻¹ (λ (x : Answer). lineCount x * c .cells ≤ length list) says (subst⁻¹ (λ (x : List ℤ). lineCount (due .answer) * c .cells ≤ length x) holds (list-room (orderIn file c) (listSize c) (groupSize c) fits)) in
+    let room : lineCount answer * c .cells ≤ length list =
+    subst⁻¹ (λ (x : Answer). lineCount x * c .cells ≤ length list) says
+    (subst⁻¹ (λ (x : List ℤ). lineCount (due .answer) * c .cells ≤ length x) holds (list-room (orderIn file c) (listSize c) (groupSize c) fits)) in
     record {
       answers = says;
-      lines = first-chunks (c .cells) (lineCount answer) list rest room ∙ ap₂ (λ (x : Answer) (y : List ℤ). chunks (c .cells) (lineCount x) y) says holds;
+      lines =
+          first-chunks (c .cells) (lineCount answer) list rest room
+          ∙ ap₂ (λ (x : Answer) (y : List ℤ). chunks (c .cells) (lineCount x) y) says holds;
       room = omega (arith, room, length-append list rest);
     }
 
@@ -98,15 +106,19 @@ split-room order vector listSize groupSize size = go (parts order vector listSiz
     wide : (pieces : List Piece) (line : List ℤ) → List·Memᴰ line (map written pieces) → length line ≡ pieceWidth
     wide pieces line m = let t = map-inv written pieces m in ap length (t .2) ∙ piece-wide (t .0)
 
-    go : (o : Outcome Parts) → lineCount (splitEnd (order .n) listSize groupSize size o .answer) * pieceWidth ≤ length (splitEnd (order .n) listSize groupSize size o .pieces)
+    go : (o : Outcome Parts)
+        → lineCount (splitEnd (order .n) listSize groupSize size o .answer) * pieceWidth ≤ length (splitEnd (order .n) listSize groupSize size o .pieces)
     go (refused number place) = omega arith
     go (accepted found) =
         let numbers = concat (map written (found .pieces)) in
-        omega (arith, length-concat pieceWidth (map written (found .pieces)) (wide (found .pieces)), length-map (found .pieces) written, length-append numbers (replicate (size - length numbers) (pos 0)))
+        omega
+        (arith, length-concat pieceWidth (map written (found .pieces)) (wide (found .pieces)), length-map (found .pieces) written, length-append numbers (replicate (size - length numbers) (pos 0)))
 
 -- SPLIT on an accepted file
-pub split-serves : (file : List ℕ) (c : Counts) {order : Order} {vector : List ℤ} {size group room : ℕ} {answer : Answer} {list : List ℤ} {table : List ℕ} {pieces : List ℤ}
-    → SplitPromise order vector size group room answer list table pieces → order ≡ orderIn file c → vector ≡ vectorIn file c → size ≡ listSize c → group ≡ groupSize c → room ≡ piecesSize
+pub split-serves : (file : List ℕ) (c : Counts) {order : Order} {vector : List ℤ} {size group room : ℕ}
+    {answer : Answer} {list : List ℤ} {table : List ℕ} {pieces : List ℤ}
+    → SplitPromise order vector size group room answer list table pieces → order ≡ orderIn file c
+    → vector ≡ vectorIn file c → size ≡ listSize c → group ≡ groupSize c → room ≡ piecesSize
     → Serves (servedBy SplitService file (Accepted c)) answer pieceWidth pieces
 unfolding servedBy
 split-serves file c {order} {vector} {size} {group} {room} {answer} {pieces = pieces} P e v s g q =
@@ -117,22 +129,28 @@ split-serves file c {order} {vector} {size} {group} {room} {answer} {pieces = pi
     record {
       answers = says;
       lines = ap₂ (λ (x : Answer) (y : List ℤ). chunks pieceWidth (lineCount x) y) says holds;
-      room = subst⁻¹ (λ (x : Answer). lineCount x * pieceWidth ≤ length pieces) says (subst⁻¹ (λ (x : List ℤ). lineCount (due .answer) * pieceWidth ≤ length x) holds (split-room (orderIn file c) (vectorIn file c) (listSize c) (groupSize c) piecesSize));
+      room =
+          subst⁻¹ (λ (x : Answer). lineCount x * pieceWidth ≤ length pieces) says
+          (subst⁻¹ (λ (x : List ℤ). lineCount (due .answer) * pieceWidth ≤ length x) holds (split-room (orderIn file c) (vectorIn file c) (listSize c) (groupSize c) piecesSize));
     }
 
 -- ---- Check
 
 -- CHECK on an accepted file
-pub check-says : (file : List ℕ) (c : Counts) {order : Order} {rows coefficients : List ℤ} {group : ℕ} {answer : Answer} {table : List ℕ}
-    → CheckPromise order rows coefficients group answer table → order ≡ orderIn file c → rows ≡ rowsIn file c → coefficients ≡ coefficientsIn file c → group ≡ groupSize c
+pub check-says : (file : List ℕ) (c : Counts) {order : Order} {rows coefficients : List ℤ} {group : ℕ}
+    {answer : Answer} {table : List ℕ}
+    → CheckPromise order rows coefficients group answer table → order ≡ orderIn file c → rows ≡ rowsIn file c
+    → coefficients ≡ coefficientsIn file c → group ≡ groupSize c
     → answer ≡ servedBy CheckService file (Accepted c) .answer
 unfolding servedBy
 check-says file c {order} {rows} {coefficients} {group} P e r q g =
-    let same : checkCall order rows coefficients group ≡ checkCall (orderIn file c) (rowsIn file c) (coefficientsIn file c) (groupSize c) = rw (e, r, q, g) in
+    let same : checkCall order rows coefficients group ≡ checkCall (orderIn file c) (rowsIn file c) (coefficientsIn file c) (groupSize c) =
+    rw (e, r, q, g) in
     P .answers ∙ ap (λ (x : CheckEnd). x .answer) same
 
 -- a Check has no lines
-check-lines : (order : Order) (rows coefficients : List ℤ) (size : ℕ) → lineCount (checkCall order rows coefficients size .answer) ≡ 0
+check-lines : (order : Order) (rows coefficients : List ℤ) (size : ℕ)
+    → lineCount (checkCall order rows coefficients size .answer) ≡ 0
 unfolding checkCall checkEnd
 check-lines order rows coefficients size = go (checkFault order rows coefficients size)
   where
@@ -143,21 +161,29 @@ check-lines order rows coefficients size = go (checkFault order rows coefficient
 -- ---- any file
 
 -- a refusal of its scan
-pub refused-serves : (service : Service) (file : List ℕ) {number place : ℕ} (width : ℕ) (area : List ℤ) → scanOf service file ≡ RefusedFile number place → Serves (served service file) (Refused number place) width area
+pub refused-serves : (service : Service) (file : List ℕ) {number place : ℕ} (width : ℕ) (area : List ℤ)
+    → scanOf service file ≡ RefusedFile number place → Serves (served service file) (Refused number place) width area
 unfolding served servedBy chunks
 refused-serves service file {number} {place} width area e =
-    subst⁻¹ (λ (s : Scanned). Serves (servedBy service file s) (Refused number place) width area) e (none width area refl refl refl)
+    subst⁻¹ (λ (s : Scanned). Serves (servedBy service file s) (Refused number place) width area) e
+    (none width area refl refl refl)
 
 -- what is answered to an order that it accepts
-pub accepted-serves : (service : Service) (file : List ℕ) {c : Counts} {answer : Answer} {width : ℕ} {area : List ℤ} → scanOf service file ≡ Accepted c → Serves (servedBy service file (Accepted c)) answer width area → Serves (served service file) answer width area
+pub accepted-serves : (service : Service) (file : List ℕ) {c : Counts} {answer : Answer} {width : ℕ} {area : List ℤ}
+    → scanOf service file ≡ Accepted c → Serves (servedBy service file (Accepted c)) answer width area
+    → Serves (served service file) answer width area
 unfolding served
-accepted-serves service file {answer = answer} {width} {area} e = subst⁻¹ (λ (s : Scanned). Serves (servedBy service file s) answer width area) e
+accepted-serves service file {answer = answer} {width} {area} e =
+    subst⁻¹ (λ (s : Scanned). Serves (servedBy service file s) answer width area) e
 
 -- the answer of a Check, with any area
-pub check-serves : (file : List ℕ) {answer : Answer} (width : ℕ) (area : List ℤ) → answer ≡ served CheckService file .answer → Serves (served CheckService file) answer width area
+pub check-serves : (file : List ℕ) {answer : Answer} (width : ℕ) (area : List ℤ)
+    → answer ≡ served CheckService file .answer → Serves (served CheckService file) answer width area
 unfolding served servedBy chunks
 check-serves file {answer} width area e = go (scanOf CheckService file) e
   where
-    go : (s : Scanned) → answer ≡ servedBy CheckService file s .answer → Serves (servedBy CheckService file s) answer width area
+    go : (s : Scanned) → answer ≡ servedBy CheckService file s .answer
+        → Serves (servedBy CheckService file s) answer width area
     go (RefusedFile number place) q = none width area q refl refl
-    go (Accepted c) q = none width area q (check-lines (orderIn file c) (rowsIn file c) (coefficientsIn file c) (groupSize c)) refl
+    go (Accepted c) q =
+        none width area q (check-lines (orderIn file c) (rowsIn file c) (coefficientsIn file c) (groupSize c)) refl

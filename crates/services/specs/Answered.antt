@@ -6,13 +6,21 @@ use lib.IntN.{ℤ}
 use lib.ListN.{length, take}
 use Rattle.definitions.specs.declared.Answer.{Answer}
 use Rattle.definitions.specs.declared.Answer.the-variants.{Moves, Split, Passed, Refused}
-use Rattle.definitions.specs.Lent.{chunks}
+use Rattle.definitions.specs.Limits.{cells, exchangeLimit, generatorLimit}
+use Rattle.definitions.specs.Lent.{chunks, filled}
 use Rattle.theory.proofs.Refused.{placeLimit}
 use Rattle.orders.specs.declared.Counts.{Counts}
-use Rattle.orders.specs.Operands.{exchangesIn, generatorsIn}
+use Rattle.orders.specs.Operands.{Limited, exchangesIn, generatorsIn, headOf}
 use Rattle.answers.specs.Answers.{lineCount}
-use Rattle.answers.specs.Page.{pageOf}
-use Rattle.files.specs.Services.{CallEnd, Served, placeFactor, printedLength}
+use Rattle.answers.specs.Refusal.{placeFactor}
+use Rattle.promises.specs.Services.{CallEnd, Served}
+
+-- a file whose counts keep the limits holds the generators and the exchanges, and two areas have room for any
+pub record OrderFits (file : List ℕ) (c : Counts) (generators : List ℤ) (exchanges : List ℕ) : Type 0 where
+  pub limited : Limited c
+  pub long : headOf c ≤ length file
+  pub generatorsFit : generatorLimit * cells ≤ length generators
+  pub exchangesFit : exchangeLimit * cells ≤ length exchanges
 
 -- the generators and the exchanges of a file stand at the start of two areas
 pub record OrderRead (file : List ℕ) (c : Counts) (generators : List ℤ) (exchanges : List ℕ) : Type 0 where
@@ -35,17 +43,18 @@ pub record Ends (due : CallEnd) (result : ℤ) (area : List ℕ) : Type 0 where
 -- a refusal whose number and place can be read from the result
 abbrev pub Small : Answer → Type 0
 Small (Refused number place) = (number < placeFactor) × (place ≤ placeLimit)
-Small (Moves rows order stored sums) = Unit {0}
-Small (Split pieces rows order stored sums) = Unit {0}
+Small (Moves rows members stored sums) = Unit {0}
+Small (Split pieces rows members stored sums) = Unit {0}
 Small (Passed rows sums) = Unit {0}
 
 -- n counts bytes at the start of xs: what a part of so many bytes asks
 abbrev pub Counted : (n : ℕ) (xs : List ℕ) → Type 0
 Counted n xs = (n ≤ length xs) × (n ≡ length (take n xs))
 
--- an area of `size` bytes holds a text with zeros behind it, and `count` is the text's length; zeros alone and 0 where the text is longer
+-- `count` counts bytes of an area of `size`, and where a text fits, it is its length: the text stands at the start,
+-- and zeros behind it
 pub record TextIn (text : List ℕ) (size count : ℕ) (area : List ℕ) : Type 0 where
+  pub sized : length area ≡ size
   pub counted : Counted count area
-  pub counts : count ≡ printedLength size text
-  pub areaHolds : area ≡ pageOf size text
-  pub holds : length text ≤ length area → take count area ≡ text
+  pub counts : length text ≤ size → count ≡ length text
+  pub areaHolds : length text ≤ size → area ≡ filled 0 size text

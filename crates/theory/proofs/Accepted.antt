@@ -15,7 +15,7 @@ use Rattle.definitions.specs.Vector.{Vector, isMember, isZero, negative, padded
 use Rattle.definitions.specs.Lattice.{InLattice}
 use Rattle.definitions.specs.Group.{Exchange, exchanged, isExchange}
 use Rattle.definitions.specs.Lent.{Order, chunks, exchangesOf, generatorsOf, groupRows, rowsOf, tableOf, vectorsOf}
-use Rattle.definitions.specs.Refusals.{cellsFault, faultWhere, isGenerator, isPast, leavesGenerators, orderFault}
+use Rattle.definitions.specs.Refusals.{cellsFault, faultWhere, admissionFault, isGenerator, isPast, leavesGenerators, numbersFault, orderFault, sizeFault, symmetryFault}
 use Rattle.theory.proofs.Tests.{and-true-left, and-true-right, clash}
 use Rattle.theory.proofs.Members.{Each, any-none, each-append, each-both, each-cons, each-from, each-image, each-map, each-member, each-nil, member-place}
 use Rattle.theory.proofs.Vector.{length-negative, length-plus, length-zero, negative-negative}
@@ -90,22 +90,32 @@ cells-none n e =
     let b = not-false (leb 1 n && leb n cells) (if-none 5 (not (leb 1 n && leb n cells)) e) in
     record { least = leb-true 1 n (and-true-left (leb 1 n) (leb n cells) b); most = leb-true n cells (and-true-right (leb 1 n) (leb n cells) b) }
 
--- ---- 7 to 11
-pub record Acceptable (order : Order) (groupSize : ℕ) : Type 0 where
+-- ---- 5 to 11, one after the other
+pub record Admitted (order : Order) (groupSize : ℕ) (fits : Bool) : Type 0 where
+  pub cellsPass : cellsFault (order .n) ≡ None
+  pub sizesPass : sizeFault order groupSize fits ≡ None
+  pub testsPass : orderFault order groupSize ≡ None
+
+pub admission-none : (order : Order) (groupSize : ℕ) (fits : Bool) → admissionFault order groupSize fits ≡ None → Admitted order groupSize fits
+unfolding admissionFault
+admission-none order groupSize fits e =
+    let a = tests-none (cellsFault (order .n)) _ e in
+    let b = tests-none (sizeFault order groupSize fits) _ (a .1) in
+    let c = tests-none (orderFault order groupSize) _ (b .1) in
+    record { cellsPass = a .0; sizesPass = b .0; testsPass = c .0 }
+
+-- ---- 7 to 9
+pub record Sendable (order : Order) : Type 0 where
   pub limited : Within entryLimit (order .generators)
   pub nonzero : Each (λ g. isZero g ≡ false) (generatorsOf order)
   pub exchanges : AllExchanges (order .n) (exchangesOf order)
-  pub roomy : length (tableOf order groupSize) ≤ groupRows (order .n) groupSize
-  pub closed : Each (λ g. leavesGenerators (generatorsOf order) (exchangesOf order) g ≡ false) (generatorsOf order)
 
-pub order-none : (order : Order) (groupSize : ℕ) → orderFault order groupSize ≡ None → Acceptable order groupSize
-unfolding orderFault
-order-none order groupSize e =
+pub numbers-none : (order : Order) → numbersFault order ≡ None → Sendable order
+unfolding numbersFault
+numbers-none order e =
     let a = tests-none _ _ e in
     let b = tests-none _ _ (a .1) in
     let c = tests-none _ _ (b .1) in
-    let d = tests-none _ _ (c .1) in
-    let f = tests-none _ _ (d .1) in
     record {
       limited = past-where 7 entryLimit (order .generators) (a .0);
       nonzero = each-from generators [] (where-none 8 (length generators) (λ p. isZero (getD generators p [])) .0 (b .0));
@@ -113,8 +123,6 @@ order-none order groupSize e =
           let at = member-place [] k in
           subst (λ (t : Exchange). isExchange (order .n) t ≡ true) (at .2)
           (not-false (isExchange (order .n) (getD sent (at .0) [])) (where-none 9 (length sent) (λ p. not (isExchange (order .n) (getD sent p []))) .0 (c .0) (at .0) (at .1)));
-      roomy = leb-true _ _ (not-false (leb (length (tableOf order groupSize)) (groupRows (order .n) groupSize)) (if-none 10 _ (d .0)));
-      closed = each-from generators [] (where-none 11 (length generators) (λ p. leavesGenerators generators sent (getD generators p [])) .0 (f .0));
     }
   where
     generators : List Vector
@@ -122,6 +130,27 @@ order-none order groupSize e =
 
     sent : List Exchange
     sent = exchangesOf order
+
+-- ---- 7 to 11
+pub record Acceptable (order : Order) (groupSize : ℕ) : Type 0 where
+  pub sendable : Sendable order
+  pub roomy : length (tableOf order groupSize) ≤ groupRows (order .n) groupSize
+  pub closed : Each (λ g. leavesGenerators (generatorsOf order) (exchangesOf order) g ≡ false) (generatorsOf order)
+
+pub order-none : (order : Order) (groupSize : ℕ) → orderFault order groupSize ≡ None → Acceptable order groupSize
+unfolding orderFault symmetryFault
+order-none order groupSize e =
+    let both = tests-none (numbersFault order) _ e in
+    let d = tests-none _ _ (tests-none (symmetryFault order groupSize) _ (both .1) .0) in
+    let f = tests-none _ _ (d .1) in
+    record {
+      sendable = numbers-none order (both .0);
+      roomy = leb-true _ _ (not-false (leb (length (tableOf order groupSize)) (groupRows (order .n) groupSize)) (if-none 10 _ (d .0)));
+      closed = each-from generators [] (where-none 11 (length generators) (λ p. leavesGenerators generators (exchangesOf order) (getD generators p [])) .0 (f .0));
+    }
+  where
+    generators : List Vector
+    generators = generatorsOf order
 
 -- the table has at most so many rows as a group may have members
 pub table-small : (order : Order) (groupSize : ℕ) → orderFault order groupSize ≡ None → length (tableOf order groupSize) ≤ groupLimit
@@ -171,9 +200,9 @@ unfolding tableOf
 order-symmetric order groupSize e f = record {
   fits = cells-none (order .n) e .most;
   sizes = sizes;
-  exchanges = A .exchanges;
+  exchanges = A .sendable .exchanges;
   isTable = table-of-group (order .n) (exchangesOf order) (groupRows (order .n) groupSize) (A .roomy);
-  keeps = λ s k. exchange-keeps (generatorsOf order) sizes s (omega (arith, valid-of (order .n) s (A .exchanges s k) .long, cells-none (order .n) e .most)) (each-map (λ g (h : leavesGenerators (generatorsOf order) (exchangesOf order) g ≡ false). kept s k g h) (A .closed));
+  keeps = λ s k. exchange-keeps (generatorsOf order) sizes s (omega (arith, valid-of (order .n) s (A .sendable .exchanges s k) .long, cells-none (order .n) e .most)) (each-map (λ g (h : leavesGenerators (generatorsOf order) (exchangesOf order) g ≡ false). kept s k g h) (A .closed));
 }
   where
     A : Acceptable order groupSize
@@ -190,4 +219,4 @@ pub order-generators : (order : Order) (groupSize : ℕ) → orderFault order gr
 unfolding generatorsOf
 order-generators order groupSize f =
     let A = order-none order groupSize f in
-    (each-map (λ g (h : isZero g ≡ false). not-zero h) (A .nonzero), vectors-within (order .n) (A .limited))
+    (each-map (λ g (h : isZero g ≡ false). not-zero h) (A .sendable .nonzero), vectors-within (order .n) (A .sendable .limited))

@@ -20,9 +20,9 @@ use Rattle.definitions.specs.Group.{Exchange, identity, unit}
 use Rattle.definitions.specs.Orbit.{IsImage, precedes, representative}
 use Rattle.definitions.specs.Completion.{hasOtherBelow, remainder, sumCount}
 use Rattle.definitions.specs.Lent.{Order, chunks, exchangesOf, generatorsOf, rowsOf, tableOf, vectorsOf}
-use Rattle.definitions.specs.Refusals.{cellsFault, checkSizeFault, faultWhere, isMisplaced, isPast, isUncertified, isUnfit, orderFault, rowsFault, wholenessFault}
+use Rattle.definitions.specs.Refusals.{admissionFault, broughtFits, faultWhere, isMisplaced, isPast, isUncertified, isUnfit, rowsFault, sizeFault, wholenessFault}
 use Rattle.definitions.specs.Calls.{checkCall, checkEnd, checkFault, rulesFault}
-use Rattle.definitions.specs.Demands.{ConformalSum, InOrder, RulesKept, Whole}
+use Rattle.definitions.specs.Demands.{ConformalSum, Sorted, RulesKept, Whole}
 use Rattle.theory.proofs.Tests.{or-false-left, or-false-right}
 use Rattle.theory.proofs.Lists.{chunks-length, row-long}
 use Rattle.theory.proofs.Members.{Each, each-from, each-member, member-place}
@@ -32,11 +32,11 @@ use Rattle.theory.proofs.Bounds.{Within, not-zero, within-each}
 use Rattle.theory.proofs.Whole.{Stored}
 use Rattle.theory.proofs.Equal.{equal-same}
 use Rattle.theory.proofs.Sums.{sums-none}
-use Rattle.theory.proofs.InOrder.{in-order-ordered, ordered-once}
+use Rattle.theory.proofs.Sorting.{sorted-ascends, ascends-once}
 use Rattle.theory.proofs.Listing.{Passes, passes-conformal, passes-whole, whole-passes}
 use Rattle.theory.proofs.Faults.{none-all, none-end, tests-none, where-none}
 use Rattle.theory.proofs.Sizes.{sizes-of-check}
-use Rattle.theory.proofs.Accepted.{order-symmetric}
+use Rattle.theory.proofs.Accepted.{admission-none, order-symmetric}
 
 pub vectors-count : (n : ℕ) (numbers : List ℤ) → length (vectorsOf n numbers) ≡ length numbers / n
 unfolding vectorsOf rowsOf
@@ -63,9 +63,9 @@ fitting table row e =
       canonical = sym (equal-same row (representative table row) (not-false (equal row (representative table row)) b));
     }
 
-placed-in-order : (rows : List Vector) → ((r : ℕ) → r < length rows → isMisplaced rows r ≡ false) → InOrder rows
+placed-sorted : (rows : List Vector) → ((r : ℕ) → r < length rows → isMisplaced rows r ≡ false) → Sorted rows
 unfolding isMisplaced
-placed-in-order rows f = record { ascending = λ r l. not-false (precedes (getD rows r []) (getD rows (suc r) [])) (f (suc r) l) }
+placed-sorted rows f = record { ascending = λ r l. not-false (precedes (getD rows r []) (getD rows (suc r) [])) (f (suc r) l) }
 
 certified : (generators : List Vector) (coefficients : List ℤ) (row : Vector) → length coefficients ≡ length generators → isUncertified generators coefficients row ≡ false → InLattice generators row
 unfolding isUncertified
@@ -98,7 +98,7 @@ module _ {n : ℕ} {sent table : List Exchange} {generators : List Vector} (O : 
         (where-none 19 (length rows) (λ r. isUncertified generators (getD certificates r []) (getD rows r [])) .0 (unmet .2) r l));
     nonzero = each-from rows [] (λ r l. not-zero (fit r l .nonzero));
     canonical = each-from rows [] (λ r l. fit r l .canonical);
-    once = ordered-once (in-order-ordered rows (placed-in-order rows (where-none 18 (length rows) (isMisplaced rows) .0 (unmet .1))));
+    once = ascends-once (sorted-ascends rows (placed-sorted rows (where-none 18 (length rows) (isMisplaced rows) .0 (unmet .1))));
   }
 
   pub rows-limited : Each (Within entryLimit) rows
@@ -117,20 +117,19 @@ module _ (order : Order) (brought coefficients : List ℤ) (groupSize : ℕ) whe
     pub stored : Stored symmetric rows
     pub nonempty : 0 < length table
 
-  counts : checkSizeFault order brought coefficients groupSize ≡ None → length rows * length (generatorsOf order) ≤ length coefficients
+  counts : sizeFault order groupSize (broughtFits order brought coefficients) ≡ None → length rows * length (generatorsOf order) ≤ length coefficients
   counts e = omega (arith, sizes-of-check order brought coefficients groupSize e .oneEach, ap₂ _*_ (vectors-count (order .n) brought) (generators-count order))
 
   pub rules-facts : RulesKept order brought coefficients groupSize → RulesFacts
   unfolding rulesFault
   rules-facts e =
-      let a = tests-none (cellsFault (order .n)) _ e in
-      let b = tests-none (checkSizeFault order brought coefficients groupSize) _ (a .1) in
-      let c = tests-none (orderFault order groupSize) _ (b .1) in
-      let d = tests-none (rowsFault table (generatorsOf order) rows coefficients) _ (c .1) in
-      let O = order-symmetric order groupSize (a .0) (c .0) in
+      let a = tests-none (admissionFault order groupSize (broughtFits order brought coefficients)) _ e in
+      let d = tests-none (rowsFault table (generatorsOf order) rows coefficients) _ (a .1) in
+      let A = admission-none order groupSize (broughtFits order brought coefficients) (a .0) in
+      let O = order-symmetric order groupSize (A .cellsPass) (A .testsPass) in
       record {
         symmetric = O;
-        stored = rows-stored O rows coefficients (counts (b .0)) (d .0);
+        stored = rows-stored O rows coefficients (counts (A .sizesPass)) (d .0);
         nonempty = (let at = member-place [] (O .isTable .complete (identity (order .n)) unit) in omega (arith, at .1));
       }
 
@@ -169,7 +168,7 @@ module _ (order : Order) (brought coefficients : List ℤ) (groupSize : ℕ) whe
     λ h. let F = rules-facts (h .0) in none-all _ (h .0) (none-all [] (wholeness-passes F .1 (whole-passes (F .symmetric) rows (F .stored) (h .1))) none-end),
   )
 
-  -- OF A PASSED LIST every lattice vector is a sum of images of its rows, none opposing it in any cell
+  -- OF A PASSED LIST: conformal sums of images of its rows make up the whole lattice
   pub check-conformal : checkFault order brought coefficients groupSize ≡ None → (v : Vector) → InLattice (generatorsOf order) v → ConformalSum (order .n) (exchangesOf order) rows v
   unfolding checkFault
   check-conformal e v h =

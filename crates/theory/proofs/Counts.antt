@@ -14,7 +14,7 @@ use Rattle.definitions.specs.Vector.{Vector, padded, scale, weight}
 use Rattle.definitions.specs.Completion.{sumCount}
 use Rattle.definitions.specs.Split.{Piece, share, sign, written}
 use Rattle.definitions.specs.Lent.{Order, tableOf}
-use Rattle.definitions.specs.Refusals.{accepted, cellsFault, checkSizeFault, orderFault}
+use Rattle.definitions.specs.Refusals.{accepted, admissionFault, broughtFits}
 use Rattle.definitions.specs.Calls.{Listing, Parts, checkFault, listing, parts, rulesFault}
 use Rattle.theory.proofs.Members.{Each, each-append, each-cons, each-image, each-member, each-nil, each-of}
 use Rattle.theory.proofs.Bounds.{Within, within-below}
@@ -22,7 +22,7 @@ use Rattle.theory.proofs.Times.{abs-times, no-more}
 use Rattle.theory.proofs.Split.{fit-images, splitting-pieces}
 use Rattle.theory.proofs.Faults.{tests-none}
 use Rattle.theory.proofs.Sizes.{sizes-of-check}
-use Rattle.theory.proofs.Accepted.{padded-within, table-small}
+use Rattle.theory.proofs.Accepted.{admission-none, padded-within, table-small}
 use Rattle.theory.proofs.ListCall.{ListFacts, listing-facts}
 use Rattle.theory.proofs.SplitCall.{SplitMade, split-facts, split-made}
 use Rattle.theory.proofs.Refused.{placeLimit, sums-few}
@@ -57,11 +57,10 @@ pub check-counts : (order : Order) (brought coefficients : List ℤ) (groupSize 
 unfolding checkFault rulesFault
 check-counts order brought coefficients groupSize e =
     let a = tests-none (rulesFault order brought coefficients groupSize) _ e in
-    let b = tests-none (cellsFault (order .n)) _ (a .0) in
-    let c = tests-none (checkSizeFault order brought coefficients groupSize) _ (b .1) in
-    let d = tests-none (orderFault order groupSize) _ (c .1) in
-    let few = sizes-of-check order brought coefficients groupSize (c .0) .few in
-    let small = table-small order groupSize (d .0) in
+    let b = tests-none (admissionFault order groupSize (broughtFits order brought coefficients)) _ (a .0) in
+    let A = admission-none order groupSize (broughtFits order brought coefficients) (b .0) in
+    let few = sizes-of-check order brought coefficients groupSize (A .sizesPass) .few in
+    let small = table-small order groupSize (A .testsPass) in
     record { table = small; rows = few; sums = sums-few small few }
 
 -- ---- Split

@@ -26,7 +26,7 @@ pub mod Steps
 pub mod Places
 pub mod Sums
 pub mod Completion
-pub mod InOrder
+pub mod Sorting
 pub mod Listing
 pub mod Times
 pub mod Split

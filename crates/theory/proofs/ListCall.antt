@@ -14,7 +14,7 @@ use Rattle.definitions.specs.Vector.{Vector, isZero, within, zeroVector}
 use Rattle.definitions.specs.Group.{Exchange}
 use Rattle.definitions.specs.Completion.{Completion, State, begun, completed, finalRows, isFinished, remainder, running, settled, step, stopped, storedRows, sumAt, sumCount}
 use Rattle.definitions.specs.Lent.{Order, exchangesOf, generatorsOf, listRows, tableOf}
-use Rattle.definitions.specs.Refusals.{accepted, cellsFault, listSizeFault, orderFault}
+use Rattle.definitions.specs.Refusals.{accepted, cellsFault, orderFault}
 use Rattle.definitions.specs.Calls.{Listing, listing, listingOf}
 use Rattle.definitions.specs.Demands.{ListKept}
 use Rattle.theory.proofs.Members.{Each, each-member}
@@ -23,9 +23,9 @@ use Rattle.theory.proofs.Bounds.{Within, each-within}
 use Rattle.theory.proofs.Whole.{Stored}
 use Rattle.theory.proofs.Counting.{Tried, completed-tried, if-cases}
 use Rattle.theory.proofs.Completion.{Progress, Sound, completed-conformal, completed-sound, run-keeps, table-positive}
-use Rattle.theory.proofs.Listing.{final-few, final-in-order, final-keeps, final-stored, final-whole}
+use Rattle.theory.proofs.Listing.{final-few, final-sorted, final-keeps, final-stored, final-whole}
 use Rattle.theory.proofs.Faults.{accepted-refused, tests-none, unless-none}
-use Rattle.theory.proofs.Accepted.{order-generators, order-symmetric, table-small}
+use Rattle.theory.proofs.Accepted.{admission-none, order-generators, order-symmetric, table-small}
 
 -- what an accepted listing rests on, for Split too
 pub record ListFacts (order : Order) (found : Listing) : Type 0 where
@@ -51,7 +51,7 @@ module _ (order : Order) (groupSize limit : ℕ) (e : cellsFault (order .n) ≡ 
     stored = final-keeps O rows (P .stored);
     kept = record {
       whole = final-whole O rows (P .stored) (completed-conformal O (G .0) (G .1) limit s q);
-      inOrder = final-in-order O rows (P .stored);
+      sorted = final-sorted O rows (P .stored);
       greatestImages = λ r l. each-member (P .stored .canonical) (final-stored O rows (P .stored) r l);
       limited = λ r l. each-within entryLimit (each-member (P .limited) (final-stored O rows (P .stored) r l));
       table = O .isTable;
@@ -79,10 +79,8 @@ pub listing-facts : (order : Order) (listSize groupSize : ℕ) (found : Listing)
 unfolding listing listingOf listRows
 listing-facts order listSize groupSize found e =
     let a = unless-none _ (listingOf table (completed table limit (generatorsOf order))) e in
-    let b = tests-none (cellsFault (order .n)) _ (a .0) in
-    let c = tests-none (listSizeFault order listSize groupSize) _ (b .1) in
-    let d = tests-none (orderFault order groupSize) _ (c .1) in
-    go (b .0) (d .0) (completed table limit (generatorsOf order)) refl (a .1)
+    let A = admission-none order groupSize _ (a .0) in
+    go (A .cellsPass) (A .testsPass) (completed table limit (generatorsOf order)) refl (a .1)
   where
     table : List Exchange
     table = tableOf order groupSize

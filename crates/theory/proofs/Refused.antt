@@ -1,5 +1,6 @@
 -- What a refusal of a lent call may report (Specification 7.2): the last number, and how great its place can be. Assumes nothing.
 use mathlib.Core.Path.{_≡_, refl, sym, subst}
+use mathlib.Core.Bool.{Bool}
 use mathlib.Core.Logic.{_⊎_, inl, inr}
 use mathlib.Core.List.{List, [], _∷_}
 use Prim.Native.Nat.{ℕ, _+_, _*_, _/_, _≤_, _<_}
@@ -15,16 +16,16 @@ use Rattle.definitions.specs.Vector.{Vector, padded}
 use Rattle.definitions.specs.Group.{Exchange}
 use Rattle.definitions.specs.Completion.{Completion, completed, running, stopped, sumCount}
 use Rattle.definitions.specs.Split.{Splitting, placedOrbits, splitting}
-use Rattle.definitions.specs.Lent.{Order, exchangesOf, generatorsOf, listRows, rowsOf, tableOf, vectorsOf}
-use Rattle.definitions.specs.Refusals.{Outcome, accepted, cellsFault, checkSizeFault, firstFault, listSizeFault, orderFault, refused, rowsFault, splitFault, splitSizeFault, wholenessFault}
+use Rattle.definitions.specs.Lent.{Order, exchangesOf, generatorsOf, listRows, rowsOf, tableOf, vectorsOf, wholeRows}
+use Rattle.definitions.specs.Refusals.{Outcome, accepted, admissionFault, broughtFits, cellsFault, firstFault, numbersFault, orderFault, refused, rowsFault, sizeFault, splitFault, splitSizeFault, symmetryFault, wholenessFault}
 use Rattle.definitions.specs.Calls.{Listing, Parts, checkCall, checkEnd, checkFault, listCall, listEnd, listing, listingOf, parts, partsOf, rulesFault, splitCall, splitEnd}
 use Rattle.theory.proofs.Lists.{chunks-length}
 use Rattle.theory.proofs.Counting.{completed-near}
 use Rattle.theory.proofs.Sums.{sums-said}
 use Rattle.theory.proofs.Completion.{table-positive}
 use Rattle.theory.proofs.Faults.{Said, accepted-refused, said-end, said-first, said-if, said-where, tests-none, unless-refused}
-use Rattle.theory.proofs.Sizes.{OrderSized, sizes-of-check, sizes-of-list, sizes-of-split}
-use Rattle.theory.proofs.Accepted.{Sized, cells-none, order-generators, order-symmetric, table-small}
+use Rattle.theory.proofs.Sizes.{OrderSized, sizes-of-check, sizes-of-order, sizes-of-split}
+use Rattle.theory.proofs.Accepted.{Sized, admission-none, cells-none, order-generators, order-symmetric, table-small}
 use Rattle.theory.proofs.ListCall.{completed-stops}
 use Rattle.theory.proofs.CheckCall.{generators-count, vectors-count}
 
@@ -48,14 +49,27 @@ pub record Reported (last number place : ℕ) : Type 0 where
 
 -- ---- 7 to 11
 order-said : (order : Order) (groupSize last : ℕ) → 13 ≤ last → Sized (order .n) → OrderSized order → Said (Reported last) (orderFault order groupSize)
-unfolding orderFault exchangesOf rowsOf
+unfolding orderFault numbersFault symmetryFault exchangesOf rowsOf
 order-said order groupSize last h S Z =
-    said-first _ (said-where 7 _ _ (λ p l. omega (arith, Z .numbers, mul-le-mul-left generatorLimit (S .most))))
+    said-first _
+    (said-first _ (said-where 7 _ _ (λ p l. omega (arith, Z .numbers, mul-le-mul-left generatorLimit (S .most))))
     (λ e. said-first _ (said-where 8 _ _ (λ p l. omega (arith, Z .generators, generators-count order)))
     (λ e. said-first _ (said-where 9 _ _ (λ p l. omega (arith, Z .exchanges, chunks-length (order .n) (length (order .exchanges) / order .n) (order .exchanges))))
-    (λ e. said-first _ (said-if 10 _ (omega arith))
+    (λ e. said-end (Reported last)))))
+    (λ e. said-first _
+    (said-first _ (said-if 10 _ (omega arith))
     (λ e. said-first _ (said-where 11 _ _ (λ p l. omega (arith, Z .generators, generators-count order)))
-    (λ e. said-end (Reported last))))))
+    (λ e. said-end (Reported last))))
+    (λ e. said-end (Reported last)))
+
+-- ---- 5 to 11
+admission-said : (order : Order) (groupSize : ℕ) (fits : Bool) (last : ℕ) → 13 ≤ last → Said (Reported last) (admissionFault order groupSize fits)
+unfolding admissionFault cellsFault sizeFault
+admission-said order groupSize fits last h =
+    said-first _ (said-if 5 _ (omega arith))
+    (λ e. said-first _ (said-if 6 _ (omega arith))
+    (λ f. said-first _ (order-said order groupSize last h (cells-none (order .n) e) (sizes-of-order order groupSize fits f .0))
+    (λ g. said-end (Reported last))))
 
 -- an order that meets none of 5 to 11 has a group
 table-some : (order : Order) (groupSize : ℕ) → cellsFault (order .n) ≡ None → orderFault order groupSize ≡ None → 0 < length (tableOf order groupSize)
@@ -70,31 +84,24 @@ module _ (order : Order) (listSize groupSize : ℕ) where
   limit = listRows (order .n) listSize
 
   abbrev tests : Fault
-  tests = firstFault (cellsFault (order .n) ∷ listSizeFault order listSize groupSize ∷ orderFault order groupSize ∷ [])
+  tests = admissionFault order groupSize (wholeRows (order .n) listSize)
 
   -- 5 to 11
   tests-said : Said (Reported 13) tests
-  unfolding cellsFault listSizeFault
-  tests-said =
-      said-first _ (said-if 5 _ (omega arith))
-      (λ e. said-first _ (said-if 6 _ (omega arith))
-      (λ f. said-first _ (order-said order groupSize 13 (omega arith) (cells-none (order .n) e) (sizes-of-list order listSize groupSize f))
-      (λ g. said-end (Reported 13))))
+  tests-said = admission-said order groupSize (wholeRows (order .n) listSize) 13 (omega arith)
 
   -- 12 and 13
   stop-reported : tests ≡ None → (number place : ℕ) → completed table limit (generatorsOf order) ≡ stopped number place → Reported 13 number place
   unfolding listRows
   stop-reported e number place q =
-      let b = tests-none (cellsFault (order .n)) _ e in
-      let c = tests-none (listSizeFault order listSize groupSize) _ (b .1) in
-      let d = tests-none (orderFault order groupSize) _ (c .1) in
+      let A = admission-none order groupSize _ e in
       let used : limit ≤ listLimit = omega arith in
-      let tried = completed-near table limit (generatorsOf order) number place (table-some order groupSize (b .0) (d .0)) q in
+      let tried = completed-near table limit (generatorsOf order) number place (table-some order groupSize (A .cellsPass) (A .testsPass)) q in
       let stops = twelve (completed-stops table limit (generatorsOf order) number place q) in
       record {
         some = stops .0;
         low = stops .1;
-        near = omega (arith, tried, sums-few (table-small order groupSize (d .0)) used);
+        near = omega (arith, tried, sums-few (table-small order groupSize (A .testsPass)) used);
       }
     where
       twelve : (number ≡ 12) ⊎ (number ≡ 13) → (1 ≤ number) × (number ≤ 13)
@@ -171,26 +178,23 @@ module _ (order : Order) (brought coefficients : List ℤ) (groupSize : ℕ) whe
 
   -- 5 to 11 and 17 to 19
   rules-said : Said (Reported 22) (rulesFault order brought coefficients groupSize)
-  unfolding rulesFault cellsFault checkSizeFault
+  unfolding rulesFault
   rules-said =
-      said-first _ (said-if 5 _ (omega arith))
-      (λ e. said-first _ (said-if 6 _ (omega arith))
-      (λ f. let Z = sizes-of-check order brought coefficients groupSize f in
-      said-first _ (order-said order groupSize 22 (omega arith) (cells-none (order .n) e) (Z .sized))
-      (λ g. said-first _ (rows-said (tableOf order groupSize) (generatorsOf order) (omega (arith, Z .few, vectors-count (order .n) brought)))
-      (λ h. said-end (Reported 22)))))
+      said-first _ (admission-said order groupSize (broughtFits order brought coefficients) 22 (omega arith))
+      (λ e. let Z = sizes-of-check order brought coefficients groupSize (admission-none order groupSize _ e .sizesPass) in
+      said-first _ (rows-said (tableOf order groupSize) (generatorsOf order) (omega (arith, Z .few, vectors-count (order .n) brought)))
+      (λ h. said-end (Reported 22)))
 
   -- 20 to 22
   wholeness-said : rulesFault order brought coefficients groupSize ≡ None → Said (Reported 22) (wholenessFault (tableOf order groupSize) (generatorsOf order) rows)
   unfolding wholenessFault rulesFault
   wholeness-said e =
-      let a = tests-none (cellsFault (order .n)) _ e in
-      let b = tests-none (checkSizeFault order brought coefficients groupSize) _ (a .1) in
-      let c = tests-none (orderFault order groupSize) _ (b .1) in
-      let Z = sizes-of-check order brought coefficients groupSize (b .0) in
+      let a = tests-none (admissionFault order groupSize (broughtFits order brought coefficients)) _ e in
+      let A = admission-none order groupSize (broughtFits order brought coefficients) (a .0) in
+      let Z = sizes-of-check order brought coefficients groupSize (A .sizesPass) in
       let few : length rows ≤ listLimit = omega (arith, Z .few, vectors-count (order .n) brought) in
       said-first _ (said-where 20 _ _ (λ p l. omega (arith, Z .sized .generators, generators-count order)))
-      (λ e. said-first _ (sums-said (Reported 22) (tableOf order groupSize) rows (table-some order groupSize (a .0) (c .0)) (λ k l. omega (arith, sums-few (table-small order groupSize (c .0)) few)))
+      (λ e. said-first _ (sums-said (Reported 22) (tableOf order groupSize) rows (table-some order groupSize (A .cellsPass) (A .testsPass)) (λ k l. omega (arith, sums-few (table-small order groupSize (A .testsPass)) few)))
       (λ e. said-first _ (said-where 22 _ _ (λ r l. omega arith))
       (λ e. said-end (Reported 22))))
 

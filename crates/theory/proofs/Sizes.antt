@@ -12,7 +12,7 @@ use lib.ListN.{length}
 use Rattle.definitions.specs.declared.Fault.the-variants.{None}
 use Rattle.definitions.specs.Limits.{generatorLimit, exchangeLimit, listLimit, pieceWidth}
 use Rattle.definitions.specs.Lent.{Order, wholeRows, wholeRowsUpTo}
-use Rattle.definitions.specs.Refusals.{checkSizeFault, listSizeFault, orderFits, splitSizeFault}
+use Rattle.definitions.specs.Refusals.{broughtFits, orderFits, sizeFault, splitSizeFault}
 use Rattle.theory.proofs.Tests.{and-true-left, and-true-right}
 use Rattle.theory.proofs.Faults.{if-none}
 
@@ -49,13 +49,13 @@ order-sized order e =
       exchanges = rows-few exchangeLimit (order .n) (length (order .exchanges)) (and-true-right g x e);
     }
 
--- 6 of a List
-pub sizes-of-list : (order : Order) (listSize groupSize : ℕ) → listSizeFault order listSize groupSize ≡ None → OrderSized order
-unfolding listSizeFault
-sizes-of-list order listSize groupSize e =
-    let first : Bool = orderFits order && wholeRows (order .n) listSize in
-    let all = not-false (first && wholeRows (order .n) groupSize) (if-none 6 (not (first && wholeRows (order .n) groupSize)) e) in
-    order-sized order (and-true-left (orderFits order) (wholeRows (order .n) listSize) (and-true-left first (wholeRows (order .n) groupSize) all))
+-- 6
+pub sizes-of-order : (order : Order) (groupSize : ℕ) (fits : Bool) → sizeFault order groupSize fits ≡ None → OrderSized order × (fits ≡ true)
+unfolding sizeFault
+sizes-of-order order groupSize fits e =
+    let first : Bool = orderFits order && wholeRows (order .n) groupSize in
+    let all = not-false (first && fits) (if-none 6 (not (first && fits)) e) in
+    (order-sized order (and-true-left (orderFits order) (wholeRows (order .n) groupSize) (and-true-left first fits all)), and-true-right first fits all)
 
 -- what 6 of a Split adds
 pub sizes-of-split : (n : ℕ) (vector : List ℤ) (piecesSize : ℕ) → splitSizeFault n vector piecesSize ≡ None → length vector ≡ n
@@ -71,18 +71,18 @@ pub record CheckSized (order : Order) (rows coefficients : List ℤ) : Type 0 wh
   pub few : length rows / order .n ≤ listLimit
   pub oneEach : length coefficients ≡ length rows / order .n * (length (order .generators) / order .n)
 
-pub sizes-of-check : (order : Order) (rows coefficients : List ℤ) (groupSize : ℕ) → checkSizeFault order rows coefficients groupSize ≡ None → CheckSized order rows coefficients
-unfolding checkSizeFault
+pub sizes-of-check : (order : Order) (rows coefficients : List ℤ) (groupSize : ℕ)
+    → sizeFault order groupSize (broughtFits order rows coefficients) ≡ None → CheckSized order rows coefficients
+unfolding broughtFits
 sizes-of-check order rows coefficients groupSize e =
-    let area : Bool = wholeRows (order .n) groupSize in
     let brought : Bool = wholeRowsUpTo listLimit (order .n) (length rows) in
     let needed : ℕ = length rows / order .n * (length (order .generators) / order .n) in
     let one : Bool = eqb (length coefficients) needed in
-    let all = not-false (orderFits order && area && brought && one) (if-none 6 (not (orderFits order && area && brought && one)) e) in
-    let sizes = and-true-left (orderFits order && area && brought) one all in
+    let Z = sizes-of-order order groupSize (broughtFits order rows coefficients) e in
+    let whole = and-true-left brought one (Z .1) in
     record {
-      sized = order-sized order (and-true-left (orderFits order) area (and-true-left (orderFits order && area) brought sizes));
-      whole = rows-whole listLimit (order .n) (length rows) (and-true-right (orderFits order && area) brought sizes);
-      few = rows-few listLimit (order .n) (length rows) (and-true-right (orderFits order && area) brought sizes);
-      oneEach = eqb-true (length coefficients) needed (and-true-right (orderFits order && area && brought) one all);
+      sized = Z .0;
+      whole = rows-whole listLimit (order .n) (length rows) whole;
+      few = rows-few listLimit (order .n) (length rows) whole;
+      oneEach = eqb-true (length coefficients) needed (and-true-right brought one (Z .1));
     }

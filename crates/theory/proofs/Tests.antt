@@ -34,8 +34,8 @@ or-false-right true b e = absurd (true≢false e)
 or-false-right false b e = e
 
 -- two numbers are in one of three orders
-pub order-cases : (x y : ℕ) → (x < y) ⊎ ((x ≡ y) ⊎ (y < x))
-order-cases x y = go (decLt x y) (decLt y x)
+pub trichotomy : (x y : ℕ) → (x < y) ⊎ ((x ≡ y) ⊎ (y < x))
+trichotomy x y = go (decLt x y) (decLt y x)
   where
     go : Dec (x < y) → Dec (y < x) → (x < y) ⊎ ((x ≡ y) ⊎ (y < x))
     go (yes p) d = inl p

@@ -153,7 +153,7 @@ pub no-more : (c w : ℕ) → 0 < w → c ≤ c * w
 no-more c (suc w) h = omega (arith, mul-suc c w)
 no-more c zero h = absurd (omega arith)
 
--- "the greatest number of times for which that multiple lies below what remains"
+-- 4.1: `times` is a multiple below v, and no larger multiple is
 pub times-greatest : (u v : Vector) (c : ℕ) → length u ≡ length v → 0 < weight u → T (below (scale (pos c) u) v) ↔ (c ≤ times u v)
 unfolding times
 times-greatest u v c l h = (

@@ -5,7 +5,7 @@ use Prim.Native.Nat.{ℕ, zero, suc, _+_, _-_, _≤_, _<_}
 use native.Mathlib.Nat.{not-suc-le-zero, le-of-suc-le-suc}
 use native.Mathlib.Numerals.{add-one}
 use native.Mathlib.Omega.{arith}
-use lib.ListN.{length, getD, take, drop, set, replicate, length-append, length-replicate, drop-of-length-le, take-append-drop, replicate-append-replicate}
+use lib.ListN.{length, getD, take, drop, set, replicate, length-append, length-replicate, length-take, drop-of-length-le, take-append-drop, replicate-append-replicate}
 use lib.Seq.{drop-cons, set-at, append-snoc, length-take-le}
 use Rattle.definitions.specs.Lists.{range}
 use Rattle.definitions.specs.Lent.{filled}
@@ -61,11 +61,10 @@ module _ {A : Type 0} (blank : A) (t : List A) (at : ℕ) where
       ∙ ap (λ (x : ℕ). take at t ++ replicate (i + 1 - at) blank ++ drop x t) (sym (add-one i))
 
   -- .. and at its end
-  pub blank-end : (i : ℕ) → at ≤ i → i ≡ length t → blanked i ≡ filled blank (length t) (take at t)
+  pub blank-end : (i : ℕ) → at ≤ i → i - at ≤ length t - at → length t ≤ i → blanked i ≡ filled blank (length t) (take at t)
   unfolding filled
-  blank-end i h e =
-      let k : i - at ≡ length t - length (take at t) = omega (arith, length-take-le at t (omega arith)) in
-      let done : length t ≤ i = omega arith in
+  blank-end i h e done =
+      let k : i - at ≡ length t - length (take at t) = omega (arith, length-take at t) in
       ap (λ (x : List A). take at t ++ replicate (i - at) blank ++ x) (drop-of-length-le t done)
       ∙ append-nil (take at t ++ replicate (i - at) blank)
       ∙ ap (λ (x : ℕ). take at t ++ replicate x blank) k

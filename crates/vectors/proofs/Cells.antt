@@ -1,5 +1,5 @@
--- One signed cell: what the tests on signs leave of the definitions, and what the machine makes of sums, differences and absolute values.
--- Assumes nothing.
+-- One signed cell: what the tests on signs leave of the definitions, and what the machine makes of sums, differences
+-- and absolute values. Assumes nothing.
 use mathlib.Core.Path.{_≡_, refl, sym, ap, _∙_, subst}
 use mathlib.Core.Bool.{Bool, true, false, cond}
 use Prim.Native.Nat.{ℕ, zero, suc, _+_, _*_, _-_, _/_, _^_, _≤_, _<_, min}

@@ -1,5 +1,5 @@
--- Loops over the cells. A loop that reads keeps the answer for what is left, `drop i v`; a loop that fills keeps what is done, `paste w₀ 0 p i`.
--- Assumes nothing.
+-- Loops over the cells. A loop that reads keeps the answer for what is left, `drop i v`; a loop that fills keeps what
+-- is done, `paste w₀ 0 p i`. Assumes nothing.
 use mathlib.Core.Path.{_≡_, refl, sym, ap, _∙_, subst}
 use mathlib.Core.Bool.{Bool, true, false, _&&_, cond}
 use mathlib.Core.List.{List, [], _∷_, _++_, map, append-nil}
@@ -7,7 +7,7 @@ use Prim.Native.Nat.{ℕ, zero, suc, _+_, _-_, _≤_, _<_}
 use native.Mathlib.Nat.{zero-add}
 use native.Mathlib.Numerals.{add-one, unary-clauses}
 use native.Mathlib.Omega.{arith}
-use borrow.Author.Tests.{leb-true, le-leb, lt-leb}
+use borrow.Author.Tests.{le-leb, lt-leb}
 use lib.Dec.{leb}
 use lib.IntN.{ℤ, pos, natAbs, negℤ, _+ℤ_, _-ℤ_, +ℤ-idl}
 use lib.Signed.{ltZ}
@@ -20,8 +20,10 @@ use Rattle.definitions.specs.Lists.{every}
 use Rattle.definitions.specs.Vector.{Vector, padded, plus, negative, weight, within, cellBelow, below, equalCell, equal, greater}
 use Rattle.definitions.specs.Group.{Exchange}
 use Rattle.definitions.specs.Split.{cellTimes, timesUpTo}
+use Rattle.theory.proofs.Lists.{getD-map}
+use Rattle.theory.proofs.Bounds.{within-each, within-cell}
 use Rattle.vectors.specs.Bounds.{headroom}
-use Rattle.vectors.proofs.Cells.{false-true, none-below, sum-fits, sum-read, difference-fits, difference-read}
+use Rattle.vectors.proofs.Cells.{none-below, sum-fits, sum-read, difference-fits, difference-read}
 
 -- cell i of v
 abbrev pub cellAt : Vector → ℕ → ℤ
@@ -31,74 +33,55 @@ cellAt v i = getD v i (pos 0)
 drop-one : (v : Vector) (i : ℕ) → i < length v → drop i v ≡ cellAt v i ∷ drop (i + 1) v
 drop-one v i h = rw (add-one, drop-cons v i (pos 0))
 
--- ---- reading: below
+-- ---- reading: a test of every two cells
 
-below-cell : (u v : Vector) (i : ℕ) → i < length u → i < length v
-    → below (drop i u) (drop i v) ≡ cellBelow (cellAt u i) (cellAt v i) && below (drop (i + 1) u) (drop (i + 1) v)
+-- it holds of all cells just where it holds of the first two and of the rest
+pub record Every (all : Vector → Vector → Bool) (test : ℤ → ℤ → Bool) : Type 0 where
+  pub none : all [] [] ≡ true
+  pub some : (a b : ℤ) (u v : Vector) → all (a ∷ u) (b ∷ v) ≡ test a b && all u v
+
+pub every-below : Every below cellBelow
 unfolding below
-below-cell u v i h k = rw (drop-one u i h, drop-one v i k)
+every-below = record { none = refl; some = λ a b u v. refl }
 
-module _ (u v : Vector) (i : ℕ) {w : Bool} (same : below (drop i u) (drop i v) ≡ w) where
-  pub below-stop : {r : Bool} → i < length u → i < length v → r ≡ cellBelow (cellAt u i) (cellAt v i) → r ≡ false → false ≡ w
-  below-stop h k e t = rw (below-cell u v i h k, ← e, t) at same
-
-  pub below-more : {r : Bool} → i < length u → i < length v → r ≡ cellBelow (cellAt u i) (cellAt v i) → r ≡ true → below (drop (i + 1) u) (drop (i + 1) v) ≡ w
-  below-more h k e t = rw (below-cell u v i h k, ← e, t) at same
-
-  pub below-end : length u ≤ i → length v ≤ i → true ≡ w
-  unfolding below
-  below-end h k = rw (drop-of-length-le u h, drop-of-length-le v k) at same
-
--- ---- reading: equal
-
-equal-cell : (u v : Vector) (i : ℕ) → i < length u → i < length v
-    → equal (drop i u) (drop i v) ≡ equalCell (cellAt u i) (cellAt v i) && equal (drop (i + 1) u) (drop (i + 1) v)
+pub every-equal : Every equal equalCell
 unfolding equal
-equal-cell u v i h k = rw (drop-one u i h, drop-one v i k)
+every-equal = record { none = refl; some = λ a b u v. refl }
 
-module _ (u v : Vector) (i : ℕ) {w : Bool} (same : equal (drop i u) (drop i v) ≡ w) where
-  pub equal-stop : i < length u → i < length v → equalCell (cellAt u i) (cellAt v i) ≡ false → false ≡ w
-  equal-stop h k t = rw (equal-cell u v i h k, t) at same
+module _ {all : Vector → Vector → Bool} {test : ℤ → ℤ → Bool} (rule : Every all test) (u v : Vector) (i : ℕ) {w : Bool} (same : all (drop i u) (drop i v) ≡ w) where
+  every-cell : i < length u → i < length v → test (cellAt u i) (cellAt v i) && all (drop (i + 1) u) (drop (i + 1) v) ≡ w
+  every-cell h k = rw (drop-one u i h, drop-one v i k, rule .some) at same
 
-  pub equal-more : i < length u → i < length v → equalCell (cellAt u i) (cellAt v i) ≡ true → equal (drop (i + 1) u) (drop (i + 1) v) ≡ w
-  equal-more h k t = rw (equal-cell u v i h k, t) at same
+  pub every-stop : i < length u → i < length v → test (cellAt u i) (cellAt v i) ≡ false → false ≡ w
+  every-stop h k t = rw t at (every-cell h k)
 
-  pub equal-end : length u ≤ i → length v ≤ i → true ≡ w
-  unfolding equal
-  equal-end h k = rw (drop-of-length-le u h, drop-of-length-le v k) at same
+  pub every-more : i < length u → i < length v → test (cellAt u i) (cellAt v i) ≡ true → all (drop (i + 1) u) (drop (i + 1) v) ≡ w
+  every-more h k t = rw t at (every-cell h k)
+
+  pub every-end : length u ≤ i → length v ≤ i → true ≡ w
+  every-end h k = rw (drop-of-length-le u h, drop-of-length-le v k, rule .none) at same
 
 -- ---- reading: within a limit
 
-within-cell : (limit : ℕ) (v : Vector) (i : ℕ) → i < length v
+within-turn : (limit : ℕ) (v : Vector) (i : ℕ) → i < length v
     → within limit (drop i v) ≡ leb (natAbs (cellAt v i)) limit && within limit (drop (i + 1) v)
 unfolding within every
-within-cell limit v i h = rw (drop-one v i h)
+within-turn limit v i h = rw (drop-one v i h)
 
 module _ (limit : ℕ) (v : Vector) (i : ℕ) {w : Bool} (same : within limit (drop i v) ≡ w) where
   pub within-stop : i < length v → limit < natAbs (cellAt v i) → false ≡ w
-  within-stop h t = rw (within-cell limit v i h, lt-leb (natAbs (cellAt v i)) limit t) at same
+  within-stop h t = rw (within-turn limit v i h, lt-leb (natAbs (cellAt v i)) limit t) at same
 
   pub within-more : i < length v → natAbs (cellAt v i) ≤ limit → within limit (drop (i + 1) v) ≡ w
-  within-more h t = rw (within-cell limit v i h, le-leb (natAbs (cellAt v i)) limit t) at same
+  within-more h t = rw (within-turn limit v i h, le-leb (natAbs (cellAt v i)) limit t) at same
 
   pub within-end : length v ≤ i → true ≡ w
   unfolding within every
   within-end h = rw (drop-of-length-le v h) at same
 
-and-left : (a b : Bool) → a && b ≡ true → a ≡ true
-and-left true b h = refl
-and-left false b h = h
-
-and-right : (a b : Bool) → a && b ≡ true → b ≡ true
-and-right true b h = h
-and-right false b h = false-true h
-
 -- each cell is within the limit
 within-at : (limit : ℕ) (v : Vector) (i : ℕ) → within limit v ≡ true → natAbs (cellAt v i) ≤ limit
-unfolding within every
-within-at limit [] i h = omega arith
-within-at limit (a ∷ v) zero h = leb-true _ _ (and-left _ (within limit v) h)
-within-at limit (a ∷ v) (suc i) h = within-at limit v i (and-right (leb (natAbs a) limit) _ h)
+within-at limit v i h = within-cell limit v (within-each limit v h) i
 
 -- ---- reading: the weight
 
@@ -110,7 +93,7 @@ pub weight-end : (v : Vector) (i : ℕ) → length v ≤ i → weight (drop i v)
 unfolding weight
 weight-end v i h = rw (drop-of-length-le v h)
 
--- ---- reading: the lexicographic order
+-- ---- reading: lexicographically greater
 
 greater-cell : (u v : Vector) (i : ℕ) → i < length u → i < length v
     → greater (drop i u) (drop i v) ≡ cond (ltZ (cellAt v i) (cellAt u i)) true (cond (ltZ (cellAt u i) (cellAt v i)) false (greater (drop (i + 1) u) (drop (i + 1) v)))
@@ -197,9 +180,7 @@ abbrev pub named : Exchange → Vector → List ℤ
 named s v = map (λ cell. cellAt v (cell - 1)) s
 
 pub named-at : (s : Exchange) (v : Vector) (j : ℕ) → j < length s → cellAt (named s v) j ≡ cellAt v (getD s j 0 - 1)
-named-at [] v j h = none-below h
-named-at (cell ∷ s) v zero h = refl
-named-at (cell ∷ s) v (suc j) h = named-at s v j (omega arith)
+named-at s v j h = getD-map (λ cell. cellAt v (cell - 1)) s j 0 (pos 0) h
 
 pub length-named : (s : Exchange) (v : Vector) → length (named s v) ≡ length s
 length-named s v = length-map s (λ cell. cellAt v (cell - 1))

@@ -1,3 +1,6 @@
 -- Laws that the proofs of the functions on vectors share.
 pub mod Cells
+pub mod Negatives
 pub mod Kit
+pub mod Rows
+pub mod Searches

@@ -1,23 +1,24 @@
 // Vectors: an array of CELLS numbers by value, and rows of lent areas (Specification 2.1).
 ghost use mathlib.Core.Path.{_≡_};
 ghost use mathlib.Core.Bool.{true};
-ghost use Prim.Native.Nat.{_+_, _≤_};
-ghost use lib.IntN.{natAbs, _*ℤ_};
+ghost use mathlib.Core.List.{[]};
+ghost use Prim.Native.Nat.{_+_, _/_, _≤_, _<_};
+ghost use lib.IntN.{pos, natAbs, _*ℤ_};
 ghost use lib.Signed.{nonNeg};
-ghost use lib.ListN.{length, take, drop};
+ghost use lib.ListN.{length, getD, take, drop};
 ghost use lib.Seq.{paste};
 ghost use Rattle.definitions.specs.Limits.{cells};
-ghost use Rattle.definitions.specs.Vector.{padded, plus, minus, negative, weight, within, isZero, cellBelow, below, equal, greater};
+ghost use Rattle.definitions.specs.Vector.{padded, plus, minus, negative, weight, within, isZero, isMember};
+ghost use Rattle.definitions.specs.Vector.{cellBelow, below, equal, greater};
 ghost use Rattle.definitions.specs.Group.{exchanged};
 ghost use Rattle.definitions.specs.Split.{cellTimes, times};
+ghost use Rattle.definitions.specs.Lent.{filled, vectorsOf};
 ghost use Rattle.vectors.specs.Bounds.{headroom, NamesCells};
-
-// The number of cells of a vector.
-pub const CELLS: usize = 16;
+use definitions::limits::CELLS;
 
 // The absolute value of `a`.
 pub fn magnitude(a: i32) -> u32
-    ensures { λ r. ⌜ r ≡ natAbs a ⌝ }
+    ensures counted { λ r. ⌜ r ≡ natAbs a ⌝ }
 {
     let b = a as i64;
     if b < 0 { (0 - b) as u32 } else { b as u32 }
@@ -25,7 +26,7 @@ pub fn magnitude(a: i32) -> u32
 
 // Whether `a` lies below `b`, of one cell (Specification 2.3).
 pub fn cell_below(a: i32, b: i32) -> bool
-    ensures { λ r. ⌜ r ≡ cellBelow a b ⌝ }
+    ensures told { λ r. ⌜ r ≡ cellBelow a b ⌝ }
 {
     if a < 0 {
         b <= a
@@ -38,7 +39,7 @@ pub fn cell_below(a: i32, b: i32) -> bool
 
 // Whether `u` lies below `v` (Specification 2.3).
 pub fn below(u: [i32; CELLS], v: [i32; CELLS]) -> bool
-    ensures { λ r. ⌜ r ≡ below u v ⌝ }
+    ensures told { λ r. ⌜ r ≡ below u v ⌝ }
 {
     let mut i = 0;
     while i < CELLS {
@@ -52,7 +53,7 @@ pub fn below(u: [i32; CELLS], v: [i32; CELLS]) -> bool
 
 // Whether no cell of `v` is past `limit` in absolute value.
 pub fn within(limit: u32, v: [i32; CELLS]) -> bool
-    ensures { λ r. ⌜ r ≡ within limit v ⌝ }
+    ensures told { λ r. ⌜ r ≡ within limit v ⌝ }
 {
     let mut i = 0;
     while i < CELLS {
@@ -66,14 +67,14 @@ pub fn within(limit: u32, v: [i32; CELLS]) -> bool
 
 // Whether `v` is the zero vector.
 pub fn is_zero(v: [i32; CELLS]) -> bool
-    ensures { λ r. ⌜ r ≡ isZero v ⌝ }
+    ensures told { λ r. ⌜ r ≡ isZero v ⌝ }
 {
     within(0, v)
 }
 
 // The weight of `v`: the sum of the absolute values (Specification 2.1).
 pub fn weight(v: [i32; CELLS]) -> u64
-    ensures { λ r. ⌜ r ≡ weight v ⌝ }
+    ensures counted { λ r. ⌜ r ≡ weight v ⌝ }
 {
     let mut sum: u64 = 0;
     let mut i = 0;
@@ -86,7 +87,7 @@ pub fn weight(v: [i32; CELLS]) -> u64
 
 // Whether `u` and `v` are the same vector.
 pub fn equal(u: [i32; CELLS], v: [i32; CELLS]) -> bool
-    ensures { λ r. ⌜ r ≡ equal u v ⌝ }
+    ensures told { λ r. ⌜ r ≡ equal u v ⌝ }
 {
     let mut i = 0;
     while i < CELLS {
@@ -100,7 +101,7 @@ pub fn equal(u: [i32; CELLS], v: [i32; CELLS]) -> bool
 
 // Whether `u` is lexicographically greater than `v` (Specification 2.1).
 pub fn greater(u: [i32; CELLS], v: [i32; CELLS]) -> bool
-    ensures { λ r. ⌜ r ≡ greater u v ⌝ }
+    ensures told { λ r. ⌜ r ≡ greater u v ⌝ }
 {
     let mut i = 0;
     while i < CELLS {
@@ -119,9 +120,9 @@ pub fn greater(u: [i32; CELLS], v: [i32; CELLS]) -> bool
 
 // The sum of `u` and `v`.
 pub fn plus(u: [i32; CELLS], v: [i32; CELLS]) -> [i32; CELLS]
-    requires { ⌜ within headroom u ≡ true ⌝ }
-    requires { ⌜ within headroom v ≡ true ⌝ }
-    ensures { λ r. ⌜ r ≡ plus u v ⌝ }
+    requires first_bounded { ⌜ within headroom u ≡ true ⌝ }
+    requires second_bounded { ⌜ within headroom v ≡ true ⌝ }
+    ensures made { λ r. ⌜ r ≡ plus u v ⌝ }
 {
     let mut w = [0; CELLS];
     let mut i = 0;
@@ -134,8 +135,8 @@ pub fn plus(u: [i32; CELLS], v: [i32; CELLS]) -> [i32; CELLS]
 
 // The negative of `v`.
 pub fn negative(v: [i32; CELLS]) -> [i32; CELLS]
-    requires { ⌜ within headroom v ≡ true ⌝ }
-    ensures { λ r. ⌜ r ≡ negative v ⌝ }
+    requires bounded { ⌜ within headroom v ≡ true ⌝ }
+    ensures made { λ r. ⌜ r ≡ negative v ⌝ }
 {
     let mut w = [0; CELLS];
     let mut i = 0;
@@ -148,17 +149,17 @@ pub fn negative(v: [i32; CELLS]) -> [i32; CELLS]
 
 // The difference of `u` and `v`.
 pub fn minus(u: [i32; CELLS], v: [i32; CELLS]) -> [i32; CELLS]
-    requires { ⌜ within headroom u ≡ true ⌝ }
-    requires { ⌜ within headroom v ≡ true ⌝ }
-    ensures { λ r. ⌜ r ≡ minus u v ⌝ }
+    requires first_bounded { ⌜ within headroom u ≡ true ⌝ }
+    requires second_bounded { ⌜ within headroom v ≡ true ⌝ }
+    ensures made { λ r. ⌜ r ≡ minus u v ⌝ }
 {
     plus(u, negative(v))
 }
 
 // `v` exchanged by `s`: cell j is cell s(j) of `v`, and the cells past `s` stay (Specification 2.5).
 pub fn exchange(v: [i32; CELLS], s: &[u8]) -> [i32; CELLS]
-    requires { ⌜ NamesCells (now s) ⌝ }
-    ensures { λ r. ⌜ r ≡ exchanged (now (s .entry)) v ⌝ }
+    requires names { ⌜ NamesCells (now s) ⌝ }
+    ensures made { λ r. ⌜ r ≡ exchanged (now (s .entry)) v ⌝ }
 {
     let mut w = v;
     let mut j = 0;
@@ -172,8 +173,8 @@ pub fn exchange(v: [i32; CELLS], s: &[u8]) -> [i32; CELLS]
 
 // The `n` numbers of an area from `at` on, as a vector.
 pub fn load(area: &[i32], at: usize, n: usize) -> [i32; CELLS]
-    requires { ⌜ (n ≤ cells) × (at + n ≤ length (now area)) ⌝ }
-    ensures { λ r. ⌜ r ≡ padded (take n (drop at (now (area .entry)))) ⌝ }
+    requires row { ⌜ (n ≤ cells) × (at + n ≤ length (now area)) ⌝ }
+    ensures made { λ r. ⌜ r ≡ padded (take n (drop at (now (area .entry)))) ⌝ }
 {
     let mut w = [0; CELLS];
     let mut j = 0;
@@ -186,8 +187,8 @@ pub fn load(area: &[i32], at: usize, n: usize) -> [i32; CELLS]
 
 // Sets the `n` numbers of an area from `at` on to the first `n` cells of `v`.
 pub fn store(area: &mut [i32], at: usize, n: usize, v: [i32; CELLS])
-    requires { ⌜ (n ≤ cells) × (at + n ≤ length (now area)) ⌝ }
-    ensures { λ _. ⌜ now (area .exit) ≡ paste (now (area .entry)) at v n ⌝ }
+    requires row { ⌜ (n ≤ cells) × (at + n ≤ length (now area)) ⌝ }
+    ensures stored { λ _. ⌜ now (area .exit) ≡ paste (now (area .entry)) at v n ⌝ }
 {
     let mut j = 0;
     while j < n {
@@ -198,7 +199,7 @@ pub fn store(area: &mut [i32], at: usize, n: usize, v: [i32; CELLS])
 
 // Whether `a` and `b` do not have opposite signs.
 pub fn same_side(a: i32, b: i32) -> bool
-    ensures { λ r. ⌜ r ≡ nonNeg (a *ℤ b) ⌝ }
+    ensures told { λ r. ⌜ r ≡ nonNeg (a *ℤ b) ⌝ }
 {
     if a < 0 {
         b <= 0
@@ -211,7 +212,7 @@ pub fn same_side(a: i32, b: i32) -> bool
 
 // The greatest number up to `bound` for which that multiple of `a` lies below `b` (Specification 4.1).
 pub fn cell_times(bound: u64, a: i32, b: i32) -> u64
-    ensures { λ r. ⌜ r ≡ cellTimes bound a b ⌝ }
+    ensures counted { λ r. ⌜ r ≡ cellTimes bound a b ⌝ }
 {
     let part = magnitude(a) as u64;
     if part == 0 {
@@ -224,9 +225,10 @@ pub fn cell_times(bound: u64, a: i32, b: i32) -> u64
     if bound < quotient { bound } else { quotient }
 }
 
-// The greatest number for which that multiple of `u` lies below `v`; for `u` zero, the weight of `v` (Specification 4.1).
+// The greatest number for which that multiple of `u` lies below `v`; for `u` zero, the weight of `v` (Specification
+// 4.1).
 pub fn times(u: [i32; CELLS], v: [i32; CELLS]) -> u64
-    ensures { λ r. ⌜ r ≡ times u v ⌝ }
+    ensures counted { λ r. ⌜ r ≡ times u v ⌝ }
 {
     let mut bound = weight(v);
     let mut i = 0;
@@ -236,4 +238,56 @@ pub fn times(u: [i32; CELLS], v: [i32; CELLS]) -> u64
         i += 1;
     }
     bound
+}
+
+// Row `p` of an area, as a vector.
+pub fn vector_at(area: &[i32], n: usize, p: usize) -> [i32; CELLS]
+    requires row { ⌜ (n ≤ cells) × (p < length (now area) / n) ⌝ }
+    ensures made { λ r. ⌜ r ≡ getD (vectorsOf n (now (area .entry))) p [] ⌝ }
+{
+    load(area, p * n, n)
+}
+
+// Whether `v` is one of the rows of an area.
+pub fn is_row(v: [i32; CELLS], area: &[i32], n: usize) -> bool
+    requires cells { ⌜ (1 ≤ n) × (n ≤ cells) ⌝ }
+    ensures told { λ r. ⌜ r ≡ isMember v (vectorsOf n (now (area .entry))) ⌝ }
+{
+    let count = area.len() / n;
+    let mut p = 0;
+    while p < count {
+        if equal(vector_at(area, n, p), v) {
+            return true;
+        }
+        p += 1;
+    }
+    false
+}
+
+// Sets the numbers from `at` on to zero (Specification 7.4).
+pub fn clear(area: &mut [i32], at: usize)
+    ensures cleared { λ _. ⌜
+        (let old = now (area .entry) in
+        now (area .exit) ≡ filled (pos 0) (length old) (take at old))
+        ⌝ }
+{
+    let mut i = at;
+    while i < area.len() {
+        area[i] = 0;
+        i += 1;
+    }
+}
+
+// Sets the bytes from `at` on to zero (Specification 7.4).
+pub fn clear_bytes(area: &mut [u8], at: usize)
+    ensures cleared { λ _. ⌜
+        (let old = now (area .entry) in
+        now (area .exit) ≡ filled 0 (length old) (take at old))
+        ⌝ }
+{
+    let mut i = at;
+    while i < area.len() {
+        area[i] = 0;
+        i += 1;
+    }
 }

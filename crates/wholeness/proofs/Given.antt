@@ -13,16 +13,19 @@ use lib.Seq.{length-take-le, take-all, take-suc, take-append-seam}
 use Rattle.definitions.specs.Limits.{cells, entryLimit, groupLimit, listLimit}
 use Rattle.definitions.specs.Lists.{concat}
 use Rattle.definitions.specs.Vector.{Vector, padded, within}
-use Rattle.definitions.specs.Lent.{chunks, rowsOf, vectorsOf, wholeRows}
-use Rattle.theory.proofs.Lists.{chunks-length, concat-chunks}
+use Rattle.definitions.specs.Orbit.{orbits}
+use Rattle.definitions.specs.Lent.{rowsOf, vectorsOf, wholeRows}
+use Rattle.theory.proofs.Lists.{concat-chunks}
 use Rattle.theory.proofs.Members.{Each, each-append, each-cons, each-nil}
 use Rattle.theory.proofs.Accepted.{each-take}
 use Rattle.theory.proofs.Bounds.{Within, each-within, within-more}
 use Rattle.vectors.specs.Bounds.{headroom}
-use Rattle.reduction.specs.Areas.{rowsAt, Area}
-use Rattle.reduction.specs.Marks.{Marked, RowMarked}
+use Rattle.reduction.specs.declared.Shape.{Shape}
+use Rattle.reduction.specs.Areas.{Area, Nonzero, rowsAt, sequencesIn}
+use Rattle.reduction.specs.Marks.{Marked, RowMarked, RowsReady}
+use Rattle.reduction.proofs.Lent.{sequences-count}
 use Rattle.reduction.proofs.Marking.{marked-more}
-use Rattle.wholeness.specs.Lists.{Brought}
+use Rattle.wholeness.specs.Lists.{Brought, Ready}
 
 -- the numbers of rows, one row after the other, keep the limit that the rows as vectors keep
 numbers-within : {limit : ℕ} (parts : List (List ℤ)) → Each (Within limit) (map padded parts) → Within limit (concat parts)
@@ -38,35 +41,58 @@ whole-numbers : (n : ℕ) (rows : List ℤ) → wholeRows n (length rows) ≡ tr
 unfolding wholeRows rowsOf
 whole-numbers n rows e =
     let none = eqb-true (length rows % n) 0 e in
-    concat-chunks n (length rows / n) rows ∙ take-all (length rows / n * n) rows (omega (arith, none, div-add-mod' (length rows) n))
+    let all : length rows ≤ length rows / n * n = omega (arith, none, div-add-mod' (length rows) n) in
+    concat-chunks n (length rows / n) rows ∙ take-all (length rows / n * n) rows all
 
 -- the rows of an area of k rows
 pub rows-same : (n k : ℕ) (rows : List ℤ) → k ≡ length rows / n → rowsAt n k rows ≡ vectorsOf n rows
 unfolding vectorsOf rowsOf
 rows-same n k rows e = ap (λ (m : ℕ). rowsAt n m rows) e
 
--- the marks of one row more
-pub marked-next : (n g : ℕ) (table : List ℕ) (rows : List Vector) (r : ℕ) (row : Vector) (old new : List ℕ) → r < length rows → row ≡ getD rows r []
-    → Marked (chunks n g table) (take r rows) old → RowMarked (chunks n g table) row (r * g) old new → Marked (chunks n g table) (take (r + 1) rows) new
-marked-next n g table rows r row old new h e before done =
-    let starts : length (take r rows) * length (chunks n g table) ≡ r * g = ap₂ _*_ (length-take-le r rows (omega arith)) (chunks-length n g table) in
-    let more : take r rows ++ row ∷ [] ≡ take (r + 1) rows = ap (λ (v : Vector). take r rows ++ v ∷ []) e ∙ sym (take-suc rows r [] h) ∙ ap (λ (k : ℕ). take k rows) (sym (add-one r)) in
-    subst (λ (l : List Vector). Marked (chunks n g table) l new) more
-    (marked-more (chunks n g table) (take r rows) row old new before (subst (λ (k : ℕ). RowMarked (chunks n g table) row k old new) (sym starts) done))
+-- the marks of one row more, behind those before it
+pub marked-next : (shape : Shape) (table : List ℕ) (rows : List Vector) (r : ℕ) (row : Vector) (old new rest : List ℕ)
+    → r < length rows → row ≡ getD rows r [] → r * shape .g ≤ length old → length new ≡ shape .g
+    → Marked (sequencesIn shape table) (take r rows) old → RowMarked (sequencesIn shape table) row new
+    → Marked (sequencesIn shape table) (take (r + 1) rows) (take (r * shape .g) old ++ (new ++ rest))
+marked-next shape table rows r row old new rest h e room long before done =
+    let sequences = sequencesIn shape table in
+    let count = sequences-count shape table in
+    let place : r * shape .g ≡ length (take r rows) * length sequences =
+    sym (ap₂ _*_ (length-take-le r rows (omega arith)) count) in
+    let more : take r rows ++ row ∷ [] ≡ take (r + 1) rows =
+    ap (λ (v : Vector). take r rows ++ v ∷ []) e ∙ sym (take-suc rows r [] h) ∙ ap (λ (k : ℕ). take k rows) (sym (add-one r)) in
+    subst (λ (l : List Vector). Marked sequences l (take (r * shape .g) old ++ (new ++ rest))) more
+    (marked-more sequences (take r rows) row old new rest (r * shape .g) place room (long ∙ sym count) before done)
 
-module _ {n g : ℕ} {table : List ℕ} {rows : List ℤ} (B : Brought n g table rows) where
+module _ {shape : Shape} {table : List ℕ} {rows : List ℤ} (B : Brought shape table rows) where
   rows-within : Within entryLimit rows
   unfolding vectorsOf
-  rows-within = subst (Within entryLimit) (whole-numbers n rows (B .whole)) (numbers-within (rowsOf n rows) (B .entries))
+  rows-within =
+      subst (Within entryLimit) (whole-numbers (shape .n) rows (B .whole))
+      (numbers-within (rowsOf (shape .n) rows) (B .entries))
 
   -- no number is past the headroom
   pub rows-limited : within headroom rows ≡ true
   rows-limited = each-within headroom (within-more (omega arith) rows-within)
 
   -- the area of all rows
-  pub area-in : Area n (length rows / n) rows
-  area-in = record { holds = div-mul-le-self (length rows) n; limited = rows-limited }
+  pub area-in : Area (shape .n) (length rows / shape .n) rows
+  area-in = record { holds = div-mul-le-self (length rows) (shape .n); limited = rows-limited }
 
   -- marks for all rows and all positions suffice
-  pub marks-room : {size : ℕ} → listLimit * groupLimit ≤ size → length rows / n * g ≤ size
-  marks-room h = omega (arith, mul-le-mul (B .few) (B .order), h)
+  pub marks-room : {size : ℕ} → listLimit * groupLimit ≤ size → length rows / shape .n * shape .g ≤ size
+  marks-room h = omega (arith, mul-le-mul (B .few) (B .small), h)
+
+-- the rows, of which there are k, with their marks: vectors can be reduced by them
+pub rows-ready : {shape : Shape} {table : List ℕ} {rows : List ℤ} {marks : List ℕ} → Ready shape table rows marks
+    → (k : ℕ) → k ≡ length rows / shape .n → RowsReady shape k table rows marks
+rows-ready {shape} {table} {rows} {marks} R k e =
+    let same = rows-same (shape .n) k rows e in
+    let B = R .brought in
+    record {
+      isTable = B .rowsOfTable;
+      area = rw e (area-in B);
+      room = rw e (R .room);
+      marked = subst (λ (l : List Vector). Marked (sequencesIn shape table) l marks) (sym same) (R .marked);
+      nonzero = subst (λ (l : List Vector). Nonzero (orbits (sequencesIn shape table) l)) (sym same) (B .positive);
+    }

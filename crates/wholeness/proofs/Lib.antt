@@ -1,3 +1,3 @@
--- The proofs of the tests of wholeness.
+-- Laws that the proofs of tests 20 to 22 share.
 pub mod Given
 pub mod Trying

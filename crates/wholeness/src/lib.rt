@@ -1,68 +1,71 @@
 // The tests of a brought list that meets none of 5 to 19: refusals 20, 21 and 22 (Specification 5.1 and 7.2).
 ghost use mathlib.Core.Path.{_≡_};
-ghost use mathlib.Core.Bool.{true, not};
+ghost use mathlib.Core.Bool.{true};
 ghost use mathlib.Core.List.{[], _∷_};
 ghost use Prim.Native.Nat.{_*_, _/_, _≤_};
-ghost use lib.ListN.{length, getD};
+ghost use lib.ListN.{length};
 ghost use Rattle.definitions.specs.Limits.{groupLimit, listLimit};
-ghost use Rattle.definitions.specs.Vector.{within, isZero};
-ghost use Rattle.definitions.specs.Completion.{firstState, remainder, hasOtherBelow, sumCount};
-ghost use Rattle.definitions.specs.Lent.{chunks, vectorsOf};
-ghost use Rattle.definitions.specs.Refusals.{firstFault, faultWhere, sumsFault, wholenessFault};
+ghost use Rattle.definitions.specs.Vector.{within};
+ghost use Rattle.definitions.specs.Lent.{vectorsOf};
+ghost use Rattle.definitions.specs.Refusals.{firstFault, wholenessFault};
 ghost use Rattle.vectors.specs.Bounds.{headroom};
+ghost use Rattle.reduction.specs.Areas.{sequencesIn};
 ghost use Rattle.reduction.specs.Marks.{Marked};
-ghost use Rattle.wholeness.specs.Lists.{Brought, Ready};
-use completion::State;
+ghost use Rattle.wholeness.specs.Lists.{Brought, Ready, generatorsFault, othersFault, triedFault};
+use completion::first;
 use completion::next;
 use completion::try_sum;
 use definitions::Fault;
-use ordering::has_other_below;
+use reduction::Shape;
 use reduction::mark_row;
 use reduction::reduce;
-use refusals::vector_at;
+use sorting::has_other_below;
 use vectors::is_zero;
+use vectors::vector_at;
 
 // Sets the marks of the rows, one row after the other.
-fn mark_brought(n: usize, rows: &[i32], table: &[u8], g: usize, marks: &mut [u8])
-    requires { ⌜ Brought n g (now table) (now rows) ⌝ }
-    requires { ⌜ length (now rows) / n * g ≤ length (now marks) ⌝ }
-    ensures { λ _. ⌜ Marked (chunks n g (now (table .entry))) (vectorsOf n (now (rows .entry))) (now (marks .exit)) ⌝ }
+fn mark_brought(rows: &[i32], table: &[u8], shape: Shape, marks: &mut [u8])
+    requires brought { ⌜ Brought shape (now table) (now rows) ⌝ }
+    requires room { ⌜ length (now rows) / shape .n * shape .g ≤ length (now marks) ⌝ }
+    ensures marked { λ _. ⌜
+        (let vectors = vectorsOf (shape .n) (now (rows .entry)) in
+        Marked (sequencesIn shape (now (table .entry))) vectors (now (marks .exit)))
+        ⌝ }
 {
+    let n = shape.n;
+    let g = shape.g;
     let count = rows.len() / n;
     let mut r = 0;
     while r < count {
         let row = vector_at(rows, n, r);
-        mark_row(row, table, n, g, &mut *marks, r * g);
+        let from = r * g;
+        let to = from + g;
+        mark_row(row, table, shape, &mut marks[from..to]);
         r += 1;
     }
 }
 
 // Refusal 20: the first generator whose remainder by the rows is not zero (Specification 7.2).
 fn generators_fault(
-    n: usize,
     generators: &[i32],
     rows: &[i32],
     table: &[u8],
-    g: usize,
+    shape: Shape,
     marks: &[u8],
 ) -> Fault
-    requires { ⌜ Ready n g (now table) (now rows) (now marks) ⌝ }
-    requires { ⌜ within headroom (now generators) ≡ true ⌝ }
-    ensures { λ r. ⌜ r ≡ faultWhere 20 (length (vectorsOf n (now (generators .entry)))) (λ p. not (isZero (remainder (chunks n g (now (table .entry))) (vectorsOf n (now (rows .entry))) (getD (vectorsOf n (now (generators .entry))) p [])))) ⌝ }
+    requires ready { ⌜ Ready shape (now table) (now rows) (now marks) ⌝ }
+    requires limited { ⌜ within headroom (now generators) ≡ true ⌝ }
+    ensures found { λ r. ⌜
+        r ≡ generatorsFault shape (now (table .entry)) (now (generators .entry)) (now (rows .entry))
+        ⌝ }
 {
+    let n = shape.n;
     let count = generators.len() / n;
     let stored = rows.len() / n;
     let mut p = 0;
     while p < count {
-        let rest = reduce(
-            vector_at(generators, n, p),
-            rows,
-            n,
-            stored,
-            table,
-            g,
-            marks,
-        );
+        let generator = vector_at(generators, n, p);
+        let rest = reduce(generator, rows, stored, table, shape, marks);
         if !is_zero(rest) {
             return Fault::At {
                 number: 20,
@@ -75,42 +78,35 @@ fn generators_fault(
 }
 
 // Refusal 21: the first sum of step 2 over the rows whose remainder is not zero (Specification 3.2 and 7.2).
-fn sums_fault(n: usize, rows: &[i32], table: &[u8], g: usize, marks: &[u8]) -> Fault
-    requires { ⌜ Ready n g (now table) (now rows) (now marks) ⌝ }
-    ensures { λ r. ⌜ r ≡ sumsFault (chunks n g (now (table .entry))) (sumCount (length (chunks n g (now (table .entry)))) (length (vectorsOf n (now (rows .entry))))) (firstState (vectorsOf n (now (rows .entry)))) ⌝ }
+fn sums_fault(rows: &[i32], table: &[u8], shape: Shape, marks: &[u8]) -> Fault
+    requires ready { ⌜ Ready shape (now table) (now rows) (now marks) ⌝ }
+    ensures found { λ r. ⌜ r ≡ triedFault shape (now (table .entry)) (now (rows .entry)) ⌝ }
 {
-    let stored = rows.len() / n;
-    let mut s = State {
-        stored,
-        i: 0,
-        j: 0,
-        position: 0,
-        positive: true,
-        sums: 0,
-    };
+    let stored = rows.len() / shape.n;
+    let mut s = first(stored);
     while s.i < stored {
-        let rest = try_sum(s, rows, n, table, g, marks);
+        let rest = try_sum(s, rows, table, shape, marks);
         if !is_zero(rest) {
             return Fault::At {
                 number: 21,
                 place: s.sums + 1,
             };
         }
-        let t = next(s, stored, g);
+        let t = next(s, stored, shape.g);
         s = t;
     }
     Fault::None
 }
 
 // Refusal 22: the first row that has an image of another row below it (Specification 7.2).
-fn others_fault(n: usize, rows: &[i32], table: &[u8], g: usize) -> Fault
-    requires { ⌜ Brought n g (now table) (now rows) ⌝ }
-    ensures { λ r. ⌜ r ≡ faultWhere 22 (length (vectorsOf n (now (rows .entry)))) (hasOtherBelow (chunks n g (now (table .entry))) (vectorsOf n (now (rows .entry)))) ⌝ }
+fn others_fault(rows: &[i32], table: &[u8], shape: Shape) -> Fault
+    requires brought { ⌜ Brought shape (now table) (now rows) ⌝ }
+    ensures found { λ r. ⌜ r ≡ othersFault shape (now (table .entry)) (now (rows .entry)) ⌝ }
 {
-    let stored = rows.len() / n;
+    let stored = rows.len() / shape.n;
     let mut row = 0;
     while row < stored {
-        if has_other_below(rows, n, stored, table, g, row) {
+        if has_other_below(rows, stored, table, shape, row) {
             return Fault::At {
                 number: 22,
                 place: row as u64,
@@ -122,34 +118,42 @@ fn others_fault(n: usize, rows: &[i32], table: &[u8], g: usize) -> Fault
 }
 
 // Refusals 21 and 22 (Specification 7.2).
-fn list_fault(n: usize, rows: &[i32], table: &[u8], g: usize, marks: &[u8]) -> Fault
-    requires { ⌜ Ready n g (now table) (now rows) (now marks) ⌝ }
-    ensures { λ r. ⌜ r ≡ firstFault (sumsFault (chunks n g (now (table .entry))) (sumCount (length (chunks n g (now (table .entry)))) (length (vectorsOf n (now (rows .entry))))) (firstState (vectorsOf n (now (rows .entry)))) ∷ faultWhere 22 (length (vectorsOf n (now (rows .entry)))) (hasOtherBelow (chunks n g (now (table .entry))) (vectorsOf n (now (rows .entry)))) ∷ []) ⌝ }
+fn list_fault(rows: &[i32], table: &[u8], shape: Shape, marks: &[u8]) -> Fault
+    requires ready { ⌜ Ready shape (now table) (now rows) (now marks) ⌝ }
+    ensures found { λ r. ⌜
+        (let table = now (table .entry) in
+        let rows = now (rows .entry) in
+        r ≡ firstFault (triedFault shape table rows ∷ othersFault shape table rows ∷ []))
+        ⌝ }
 {
-    let fault = sums_fault(n, rows, table, g, marks);
+    let fault = sums_fault(rows, table, shape, marks);
     match fault {
         Fault::At { number, place } => Fault::At { number, place },
-        Fault::None => others_fault(n, rows, table, g),
+        Fault::None => others_fault(rows, table, shape),
     }
 }
 
 // Refusals 20 to 22 (Specification 5.1 and 7.2). `marks` is room for the marks of all images of all rows.
 pub fn wholeness_fault(
-    n: usize,
     generators: &[i32],
     rows: &[i32],
     table: &[u8],
-    g: usize,
+    shape: Shape,
     marks: &mut [u8],
 ) -> Fault
-    requires { ⌜ Brought n g (now table) (now rows) ⌝ }
-    requires { ⌜ (within headroom (now generators) ≡ true) × (listLimit * groupLimit ≤ length (now marks)) ⌝ }
-    ensures { λ r. ⌜ r ≡ wholenessFault (chunks n g (now (table .entry))) (vectorsOf n (now (generators .entry))) (vectorsOf n (now (rows .entry))) ⌝ }
+    requires brought { ⌜ Brought shape (now table) (now rows) ⌝ }
+    requires limited { ⌜ within headroom (now generators) ≡ true ⌝ }
+    requires room { ⌜ listLimit * groupLimit ≤ length (now marks) ⌝ }
+    ensures found { λ r. ⌜
+        (let vectors = vectorsOf (shape .n) in
+        let sequences = sequencesIn shape (now (table .entry)) in
+        r ≡ wholenessFault sequences (vectors (now (generators .entry))) (vectors (now (rows .entry))))
+        ⌝ }
 {
-    mark_brought(n, rows, table, g, &mut *marks);
-    let fault = generators_fault(n, generators, rows, table, g, &*marks);
+    mark_brought(rows, table, shape, &mut *marks);
+    let fault = generators_fault(generators, rows, table, shape, &*marks);
     match fault {
         Fault::At { number, place } => Fault::At { number, place },
-        Fault::None => list_fault(n, rows, table, g, &*marks),
+        Fault::None => list_fault(rows, table, shape, &*marks),
     }
 }

@@ -1,4 +1,5 @@
--- `put_natural` meets its contract: the digits of the tenth part, and the last one. The measure is the number. Assumes nothing.
+-- `put_natural` meets its contract: the digits of the tenth part, and the last one. The measure is the number.
+-- Assumes nothing.
 use mathlib.Core.Path.{sym}
 use Prim.Native.Nat.{ℕ, _<_}
 use native.Mathlib.Omega.{arith}
@@ -57,11 +58,13 @@ returns-2 : (t : ℕ) → lts.Need-returns-2 (claims t) (at t) put-natural.Post
 returns-2 t c =
     let first = c .before .before .before .before .before .before in
     let a = first .before .before .before .before .args in
-    wrote-as (wrote-append (first .put-natural .ensures) (c .before .before .put-byte2 .ensures)) (sym (decimal-more (a .x) (omega arith)))
+    wrote-as (wrote-append (first .put-natural .ensures) (c .before .before .put-byte2 .ensures))
+    (sym (decimal-more (a .x) (omega arith)))
 
 pub +put-natural-spec : {M : Type 1} → statement M
 +put-natural-spec =
-    close μ-put-natural λ t. lts.spec (claims t) (at t) put-natural.Post (cast-last t) (add-last t) (put-byte-requires t) (same-length t)
+    close μ-put-natural
+    λ t. lts.spec (claims t) (at t) put-natural.Post (cast-last t) (add-last t) (put-byte-requires t) (same-length t)
     (returns t)
     (put-natural-requires t)
     (put-byte-requires-2 t)

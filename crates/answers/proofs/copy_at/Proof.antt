@@ -38,7 +38,8 @@ loop-again c =
     let o = c .before .before .loop in
     let a = c .before .before .before .args in
     let next : set (paste (a .area .now) (a .at) (a .text .now) (o .i)) (a .at + o .i) (getD (a .text .now) (o .i) 0) ≡ paste (a .area .now) (a .at) (a .text .now) (o .i + 1) =
-    paste-suc (a .area .now) (a .at) (a .text .now) (o .i) 0 (omega arith) (omega arith) ∙ ap (paste (a .area .now) (a .at) (a .text .now)) (sym (add-one (o .i))) in
+    paste-suc (a .area .now) (a .at) (a .text .now) (o .i) 0 (omega arith) (omega arith)
+    ∙ ap (paste (a .area .now) (a .at) (a .text .now)) (sym (add-one (o .i))) in
     (omega arith, simp length-set (omega arith), ap (λ (l : List ℕ). set l (a .at + o .i) (getD (a .text .now) (o .i) 0)) (o .inv .2) ∙ next)
 
 same-length : tie.Need-same-length Inv-loop μ-loop

@@ -14,7 +14,9 @@ same-length : tie.Need-same-length
 same-length c = search needs
 
 returns : tie.Need-returns
-returns c = wrote-append (c .before .before .before .before .before .before .put-byte .ensures) (c .before .before .put-natural .ensures)
+returns c =
+    wrote-append (c .before .before .before .before .before .before .put-byte .ensures)
+    (c .before .before .put-natural .ensures)
 
 pub put-count-spec : {M : Type 1} → statement M
 put-count-spec = tie.close (tie.spec put-byte-requires put-natural-requires same-length returns)

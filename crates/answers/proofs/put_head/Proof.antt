@@ -14,7 +14,8 @@ use Rattle.answers.proofs.put_head.Statement.{statement}
 use Rattle.answers.proofs.put_head.Tie as tie
 
 abbrev Inv-loop : tie.InvT-loop
-Inv-loop area₀ at word counts end₀ i₀ area end i = (i ≤ length counts) × Wrote area₀ area end₀ end (concat (map countText (take i counts)))
+Inv-loop area₀ at word counts end₀ i₀ area end i =
+    (i ≤ length counts) × Wrote area₀ area end₀ end (concat (map countText (take i counts)))
 
 abbrev μ-loop : tie.MeasureT-loop
 μ-loop area₀ at word counts end₀ i₀ area end i = length counts - i
@@ -58,7 +59,8 @@ whole : (c : tie.After-slice-known4 Inv-loop μ-loop) →
     (s .word .now ++ concat (map countText (take (a .loop .i) (s .counts .now))) ++ (lineFeed ∷ []))
 whole c =
     let a = c .before .before .before .before .before in
-    wrote-append (wrote-append (a .before .before .before .put-text .ensures) (a .loop .inv .1)) (c .before .before .put-byte .ensures)
+    wrote-append (wrote-append (a .before .before .before .put-text .ensures) (a .loop .inv .1))
+    (c .before .before .put-byte .ensures)
 
 same-length : tie.Need-same-length Inv-loop μ-loop
 same-length c = wrote-length (whole c)

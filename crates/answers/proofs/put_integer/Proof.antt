@@ -32,7 +32,8 @@ returns : tie.Need-returns
 returns c =
     let t = c .before .before .before .before .before .before .before .before in
     let s = t .before .before .before in
-    wrote-as (wrote-append (c .before .before .before .before .before .before .put-byte .ensures) (c .before .before .put-natural .ensures))
+    wrote-as
+    (wrote-append (c .before .before .before .before .before .before .put-byte .ensures) (c .before .before .put-natural .ensures))
     (ap (λ (n : ℕ). minusSign ∷ decimal n) (size (t .before)) ∙ sym (negative (s .args .z) (s .fits .z) (t .if1 .taken) .text))
 
 put-natural-requires-2 : tie.Need-put-natural-requires-2

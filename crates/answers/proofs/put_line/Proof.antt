@@ -41,7 +41,9 @@ put-byte-requires : tie.Need-put-byte-requires Inv-loop μ-loop
 put-byte-requires c κs = tt
 
 same-length : tie.Need-same-length Inv-loop μ-loop
-same-length c = wrote-length (c .before .before .put-byte .ensures) ∙ wrote-length (c .before .before .before .before .before .loop .inv .1)
+same-length c =
+    wrote-length (c .before .before .put-byte .ensures)
+    ∙ wrote-length (c .before .before .before .before .before .loop .inv .1)
 
 returns : tie.Need-returns Inv-loop μ-loop
 unfolding lineText

@@ -24,7 +24,8 @@ unfolding linesText chunks concat
 loop-holds c = (omega arith, omega arith, wrote-none (c .before .args .area .now) (c .before .args .at))
 
 -- row i ends within the numbers
-row-fits : (c : tie.In-loop Inv-loop μ-loop) → let s = c .before .before .before .args in let o = c .before .loop in o .from + s .width ≤ s .count * s .width
+row-fits : (c : tie.In-loop Inv-loop μ-loop)
+    → let s = c .before .before .before .args in let o = c .before .loop in o .from + s .width ≤ s .count * s .width
 row-fits c =
     let s = c .before .before .before .args in
     let o = c .before .loop in
@@ -61,7 +62,8 @@ loop-again c =
     let o = a .loop in (
       omega arith,
       omega arith,
-      wrote-as (wrote-append (o .inv .2) (c .before .before .put-line .ensures)) (lines-more (s .width) (o .i) (o .from) (s .numbers .now) (o .inv .1)),
+      wrote-as (wrote-append (o .inv .2) (c .before .before .put-line .ensures))
+          (lines-more (s .width) (o .i) (o .from) (s .numbers .now) (o .inv .1)),
     )
 
 same-length : tie.Need-same-length Inv-loop μ-loop

@@ -25,7 +25,8 @@ unfolding tableText
 returns c =
     let rows = c .before .before .before .before .before .before .before in
     let head = rows .before .before .before .before in
-    wrote-append (wrote-append (head .put-head .ensures) (rows .put-rows .ensures)) (c .before .before .put-text .ensures)
+    wrote-append (wrote-append (head .put-head .ensures) (rows .put-rows .ensures))
+    (c .before .before .put-text .ensures)
 
 pub put-table-spec : {M : Type 1} → statement M
 put-table-spec =

@@ -4,6 +4,7 @@ use Prim.Native.Nat.{_-_, _<_, _≤_}
 use native.Mathlib.Omega.{arith}
 use lib.ListN.{length}
 use borrow.Author.Needs.{needs}
+use Rattle.theory.proofs.Areas.{filled-nothing}
 use Rattle.answers.proofs.Pages.{written-yes, written-no, behind-yes, behind-no}
 use Rattle.answers.proofs.put_text.Statement.{statement}
 use Rattle.answers.proofs.put_text.Tie as tie
@@ -11,8 +12,8 @@ use Rattle.answers.proofs.put_text.Tie as tie
 room-requires : tie.Need-room-requires
 room-requires c κs = search needs
 
-clear-requires : tie.Need-clear-requires
-clear-requires c κs = search needs
+clear-bytes-requires : tie.Need-clear-bytes-requires
+clear-bytes-requires c κs = search needs
 
 add-result : tie.Need-add-result
 add-result c = search needs
@@ -26,7 +27,10 @@ returns c =
     let n = length (a .area .now) in
     let h : n - a .at < length (a .text .now) = omega arith in
     record {
-      page = c .before .before .clear .ensures ∙ sym (written-no (a .area .now) (a .at) (a .text .now) h);
+      page =
+          c .before .before .clear-bytes .ensures
+          ∙ filled-nothing 0 n
+          ∙ sym (written-no (a .area .now) (a .at) (a .text .now) h);
       place = sym (behind-no n (a .at) (a .text .now) h);
     }
 
@@ -54,7 +58,7 @@ put-text-spec =
     tie.close
     (tie.spec
     room-requires
-    clear-requires
+    clear-bytes-requires
     add-result
     same-length
     returns

@@ -7,10 +7,10 @@ use borrow.Author.Tests.{not-false}
 use Rattle.definitions.specs.Limits.{entryLimit}
 use Rattle.definitions.specs.Vector.{within, equal}
 use Rattle.definitions.specs.Orbit.{representative}
-use Rattle.definitions.specs.Lent.{chunks}
 use Rattle.definitions.specs.Refusals.{isUnfit}
 use Rattle.theory.proofs.Bounds.{within-each, each-within, within-more}
 use Rattle.vectors.specs.Bounds.{headroom}
+use Rattle.reduction.specs.Areas.{sequencesIn}
 use Rattle.certificates.proofs.is_unfit.Statement.{statement}
 use Rattle.certificates.proofs.is_unfit.Tie as tie
 
@@ -34,7 +34,8 @@ returns-2 c =
 representative-requires : tie.Need-representative-requires
 representative-requires c κs =
     let s = c .before .before .before .before .before in
-    (s .pre, each-within headroom (within-more (omega arith) (within-each entryLimit (s .args .row) (sym (c .before .within .ensures) ∙ not-false _ (c .if2 .left)))))
+    let limited = sym (c .before .within .ensures) ∙ not-false _ (c .if2 .left) in
+    (s .pre, each-within headroom (within-more (omega arith) (within-each entryLimit (s .args .row) limited)))
 
 equal-requires : tie.Need-equal-requires
 equal-requires c κs = search needs
@@ -44,11 +45,11 @@ unfolding isUnfit
 returns-3 c =
     let b = c .before .before in
     let s = b .before .before .before .before .before in
-    let table = chunks (s .args .n) (s .args .g) (s .args .table .now) in
+    let image = representative (sequencesIn (s .args .shape) (s .args .table .now)) (s .args .row) in
     let zero = sym (b .before .before .before .is-zero .ensures) ∙ b .before .before .if1 .left in
     let past = sym (ap not (b .before .within .ensures)) ∙ b .if2 .left in
     ap not (c .equal .ensures ∙ ap (equal (s .args .row)) (c .before .representative .ensures))
-    ∙ ap₂ (λ (x y : Bool). x || y || not (equal (s .args .row) (representative table (s .args .row)))) (sym zero) (sym past)
+    ∙ ap₂ (λ (x y : Bool). x || y || not (equal (s .args .row) image)) (sym zero) (sym past)
 
 pub is-unfit-spec : {M : Type 1} → statement M
 is-unfit-spec =

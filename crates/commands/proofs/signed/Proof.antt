@@ -3,7 +3,8 @@ use mathlib.Core.Path.{_≡_, ap, sym, _∙_}
 use Prim.Native.Nat.{suc, _+_, _-_}
 use native.Mathlib.Omega.{arith}
 use lib.IntN.{negsuc}
-use Rattle.commands.proofs.Twos.{small, flip-fits, less-fits, less-read, signed-low, signed-high}
+use Rattle.vectors.proofs.Negatives.{negated-fits, small}
+use Rattle.commands.proofs.Twos.{less-fits, less-read, signed-low, signed-high}
 use borrow.Author.Needs.{needs}
 use Rattle.commands.proofs.signed.Statement.{statement}
 use Rattle.commands.proofs.signed.Tie as tie
@@ -27,7 +28,7 @@ cast-below : tie.Need-cast-below
 cast-below c = search needs
 
 sub-result : tie.Need-sub-result
-sub-result c = let a = c .before .args in flip-fits (a .half - 1 + a .half - a .v) (omega arith)
+sub-result c = let a = c .before .args in negated-fits (a .half - 1 + a .half - a .v) (omega arith)
 
 sub-result-2 : tie.Need-sub-result-2
 sub-result-2 c = let a = c .before .args in less-fits (a .half - 1 + a .half - a .v) (omega arith)

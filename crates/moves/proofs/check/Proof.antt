@@ -2,7 +2,7 @@
 use mathlib.Core.Path.{_∙_, ap}
 use mathlib.Core.List.{[]}
 use Prim.Native.Nat.{ℕ}
-use Rattle.definitions.specs.Lent.{Order, filled}
+use Rattle.definitions.specs.Lent.{Order, filled, orderOf}
 use Rattle.moves.proofs.Checkings.{check-passed-promise, check-refused-promise, checks-is}
 use borrow.Author.Needs.{needs}
 use Rattle.moves.proofs.check.Statement.{statement}
@@ -10,10 +10,10 @@ use Rattle.moves.proofs.check.Tie as tie
 
 -- the order that was sent
 abbrev sent : tie.Start → Order
-sent s = record { n = s .args .n; generators = s .args .generators .now; exchanges = s .args .exchanges .now }
+sent s = orderOf (s .args .n) (s .args .generators .now) (s .args .exchanges .now)
 
-check-brought-requires : tie.Need-check-brought-requires
-check-brought-requires c κs = search needs
+check-list-requires : tie.Need-check-list-requires
+check-list-requires c κs = search needs
 
 enum-known-found : tie.Need-enum-known-found
 enum-known-found c = search needs
@@ -21,8 +21,8 @@ enum-known-found c = search needs
 enum-known-found-2 : tie.Need-enum-known-found-2
 enum-known-found-2 c = search needs
 
-clear-requires : tie.Need-clear-requires
-clear-requires c κs = search needs
+clear-bytes-requires : tie.Need-clear-bytes-requires
+clear-bytes-requires c κs = search needs
 
 same-length : tie.Need-same-length
 same-length c = search needs
@@ -31,7 +31,7 @@ returns : tie.Need-returns
 returns c =
     let f = c .before .before .before .before .before in
     let s = f .before .before .before .before in
-    check-passed-promise (sent s) _ _ _ _ _ (checks-is (f .check-brought .ensures) (c .before .found .given .1)) (f .check-brought .kept .1 .1 .1 .1 .1 .0)
+    check-passed-promise (sent s) _ _ _ _ _ (checks-is (f .check-list .ensures) (c .before .found .given .1)) (f .check-list .kept .1 .1 .1 .1 .1 .0)
 
 same-length-2 : tie.Need-same-length-2
 same-length-2 c = search needs
@@ -41,17 +41,17 @@ returns-2 c =
     let k = c .before .before .before .before .before in
     let f = k .before .before .before .before in
     let s = f .before .before .before .before in
-    let size = f .check-brought .kept .1 .1 .1 .1 .1 .0 in
-    check-refused-promise (sent s) _ _ _ _ _ (checks-is (f .check-brought .ensures) (k .found2 .given .1)) (c .before .before .clear .ensures ∙ ap (λ (m : ℕ). filled 0 m []) size) (c .before .before .clear .kept .0 ∙ size)
+    let size = f .check-list .kept .1 .1 .1 .1 .1 .0 in
+    check-refused-promise (sent s) _ _ _ _ _ (checks-is (f .check-list .ensures) (k .found2 .given .1)) (c .before .before .clear-bytes .ensures ∙ ap (λ (m : ℕ). filled 0 m []) size) (c .before .before .clear-bytes .kept .0 ∙ size)
 
 pub check-spec : {M : Type 1} → statement M
 check-spec =
     tie.close
     (tie.spec
-    check-brought-requires
+    check-list-requires
     enum-known-found
     enum-known-found-2
-    clear-requires
+    clear-bytes-requires
     same-length
     returns
     same-length-2

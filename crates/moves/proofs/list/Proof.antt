@@ -3,7 +3,7 @@ use mathlib.Core.Path.{_∙_, ap}
 use mathlib.Core.List.{[]}
 use Prim.Native.Nat.{ℕ}
 use lib.IntN.{pos}
-use Rattle.definitions.specs.Lent.{Order, filled}
+use Rattle.definitions.specs.Lent.{Order, filled, orderOf}
 use Rattle.moves.proofs.Ends.{promise-accepted, promise-refused, found-refused, finds-is}
 use borrow.Author.Needs.{needs}
 use Rattle.moves.proofs.list.Statement.{statement}
@@ -11,10 +11,10 @@ use Rattle.moves.proofs.list.Tie as tie
 
 -- the order that was sent
 abbrev sent : tie.Start → Order
-sent s = record { n = s .args .n; generators = s .args .generators .now; exchanges = s .args .exchanges .now }
+sent s = orderOf (s .args .n) (s .args .generators .now) (s .args .exchanges .now)
 
-find-requires : tie.Need-find-requires
-find-requires c κs = search needs
+make-list-requires : tie.Need-make-list-requires
+make-list-requires c κs = search needs
 
 enum-known-found : tie.Need-enum-known-found
 enum-known-found c = search needs
@@ -25,8 +25,8 @@ enum-known-found-2 c = search needs
 clear-requires : tie.Need-clear-requires
 clear-requires c κs = search needs
 
-clear-requires-2 : tie.Need-clear-requires-2
-clear-requires-2 c κs = search needs
+clear-bytes-requires : tie.Need-clear-bytes-requires
+clear-bytes-requires c κs = search needs
 
 same-length : tie.Need-same-length
 same-length c = search needs
@@ -38,7 +38,7 @@ returns : tie.Need-returns
 returns c =
     let f = c .before .before .before .before .before .before in
     let s = f .before .before .before .before .before in
-    promise-accepted (sent s) _ _ _ _ _ _ (f .find .kept .1 .1 .1 .0) (f .find .kept .1 .1 .1 .1 .0) (finds-is (f .find .ensures) (c .before .found .given .1))
+    promise-accepted (sent s) _ _ _ _ _ _ (f .make-list .kept .1 .1 .1 .0) (f .make-list .kept .1 .1 .1 .1 .0) (finds-is (f .make-list .ensures) (c .before .found .given .1))
 
 same-length-3 : tie.Need-same-length-3
 same-length-3 c = search needs
@@ -51,18 +51,18 @@ returns-2 c =
     let k = c .before .before .before .before .before .before .before .before in
     let f = k .before .before .before .before .before in
     let s = f .before .before .before .before .before in
-    promise-refused (sent s) _ _ _ _ (found-refused (sent s) _ _ (finds-is (f .find .ensures) (k .found2 .given .1)))
-    (c .before .before .before .before .before .clear .ensures ∙ ap (λ (m : ℕ). filled (pos 0) m []) (f .find .kept .1 .1 .1 .0)) (c .before .before .clear2 .ensures ∙ ap (λ (m : ℕ). filled 0 m []) (f .find .kept .1 .1 .1 .1 .0))
+    promise-refused (sent s) _ _ _ _ (found-refused (sent s) _ _ (finds-is (f .make-list .ensures) (k .found2 .given .1)))
+    (c .before .before .before .before .before .clear .ensures ∙ ap (λ (m : ℕ). filled (pos 0) m []) (f .make-list .kept .1 .1 .1 .0)) (c .before .before .clear-bytes .ensures ∙ ap (λ (m : ℕ). filled 0 m []) (f .make-list .kept .1 .1 .1 .1 .0))
 
 pub list-spec : {M : Type 1} → statement M
 list-spec =
     tie.close
     (tie.spec
-    find-requires
+    make-list-requires
     enum-known-found
     enum-known-found-2
     clear-requires
-    clear-requires-2
+    clear-bytes-requires
     same-length
     same-length-2
     returns

@@ -6,11 +6,11 @@ use lib.IntN.{pos}
 use lib.ListN.{length}
 use lib.Seq.{paste, paste-zero}
 use Rattle.definitions.specs.Limits.{cells}
-use Rattle.definitions.specs.Vector.{minus, scale}
+use Rattle.definitions.specs.Vector.{Vector, minus, scale}
 use Rattle.theory.proofs.Vector.{length-minus}
 use Rattle.theory.proofs.Lattice.{length-scale}
 use Rattle.vectors.proofs.Kit.{fill, filled}
-use Rattle.pieces.proofs.Multiples.{small-fits, products-fit, rests-fit, rests-read}
+use Rattle.pieces.proofs.Multiples.{small-fits, Turn, products-fit, rests-fit, rests-read}
 use Rattle.pieces.proofs.less_multiple.Statement.{statement}
 use Rattle.pieces.proofs.less_multiple.Tie as tie
 
@@ -20,16 +20,38 @@ Inv-loop count v u factor w₀ i₀ w i = (i ≤ cells) × (w ≡ paste w₀ 0 (
 abbrev μ-loop : tie.MeasureT-loop
 μ-loop count v u factor w₀ i₀ w i = cells - i
 
-less-length : (c : tie.Start Inv-loop μ-loop) → length (minus (c .args .t1) (scale (pos (c .args .count)) (c .args .t2))) ≡ cells
-less-length c =
-    let u = c .args .t2 in
-    length-minus cells (c .args .t1) (scale (pos (c .args .count)) u) (omega arith) (omega (arith, length-scale (pos (c .args .count)) u))
+-- what remains
+module _ (c : tie.Start Inv-loop μ-loop) where
+  abbrev multiple : Vector
+  multiple = scale (pos (c .args .count)) (c .args .t2)
+
+  abbrev less : Vector
+  less = minus (c .args .t1) multiple
+
+  less-length : length less ≡ cells
+  less-length =
+      length-minus cells (c .args .t1) multiple (omega arith)
+      (omega (arith, length-scale (pos (c .args .count)) (c .args .t2)))
+
+-- the cells of one turn
+module _ (c : tie.After-w2 Inv-loop μ-loop) where
+  abbrev start : tie.Start Inv-loop μ-loop
+  start = c .before .before .before .before
+
+  turn : Turn (start .args .t1) (start .args .t2) (start .args .count) (c .before .before .before .loop .i)
+  turn = record {
+    lies = start .pre .0;
+    small = start .pre .1;
+    inside = omega arith;
+    left-fits = record { sfits = c .before .w .given };
+    right-fits = record { sfits = c .w2 .given };
+  }
 
 cast-factor : tie.Need-cast-factor Inv-loop μ-loop
 cast-factor c = small-fits (c .pre .1)
 
 loop-holds : tie.Need-loop-holds Inv-loop μ-loop
-loop-holds c = (omega arith, paste-zero _ 0 (minus (c .args .t1) (scale (pos (c .args .count)) (c .args .t2))))
+loop-holds c = (omega arith, paste-zero _ 0 (less c))
 
 mul-w : tie.Need-mul-w Inv-loop μ-loop
 mul-w c = omega arith
@@ -44,16 +66,10 @@ array-copy-out-w-2 : tie.Need-array-copy-out-w-2 Inv-loop μ-loop
 array-copy-out-w-2 c = omega arith
 
 mul-w-3 : tie.Need-mul-w-3 Inv-loop μ-loop
-mul-w-3 c =
-    let a = c .before .before .before in
-    let s = a .before in
-    products-fit (s .args .t1) (s .args .t2) (s .args .count) (a .loop .i) (s .pre .0) (s .pre .1) (omega arith) (record { sfits = c .before .w .given }) (record { sfits = c .w2 .given })
+mul-w-3 c = products-fit (turn c)
 
 sub-w : tie.Need-sub-w Inv-loop μ-loop
-sub-w c =
-    let a = c .before .before .before in
-    let s = a .before in
-    rests-fit (s .args .t1) (s .args .t2) (s .args .count) (a .loop .i) (s .pre .0) (s .pre .1) (omega arith) (record { sfits = c .before .w .given }) (record { sfits = c .w2 .given })
+sub-w c = rests-fit (turn c)
 
 mul-w-4 : tie.Need-mul-w-4 Inv-loop μ-loop
 mul-w-4 c = omega arith
@@ -70,13 +86,15 @@ loop-less c = omega arith
 loop-again : tie.Need-loop-again Inv-loop μ-loop
 loop-again c =
     let a = c .before .before .before in
-    let s = a .before in
+    let s = start c in
     let l = less-length s in
-    let read = rests-read (s .args .t1) (s .args .t2) (s .args .count) (a .loop .i) (s .pre .0) (s .pre .1) (omega arith) (record { sfits = c .before .w .given }) (record { sfits = c .w2 .given }) in
-    (omega arith, fill _ (minus (s .args .t1) (scale (pos (s .args .count)) (s .args .t2))) (a .loop .i) (a .loop .inv .1) read (omega arith) (omega arith))
+    (omega arith, fill _ (less s) (a .loop .i) (a .loop .inv .1) (rests-read (turn c)) (omega arith) (omega arith))
 
 returns : tie.Need-returns Inv-loop μ-loop
-returns c = let l = less-length (c .before .before) in filled _ _ (c .before .loop .i) (c .before .loop .inv .1) (omega arith) (omega arith)
+returns c =
+    let a = c .before in
+    let l = less-length (a .before) in
+    filled _ _ (a .loop .i) (a .loop .inv .1) (omega arith) (omega arith)
 
 pub less-multiple-spec : {M : Type 1} → statement M
 less-multiple-spec =

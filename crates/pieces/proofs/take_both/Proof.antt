@@ -31,7 +31,9 @@ returns c =
     let o = b .before .before in
     let a = o .before .before in
     let d = a .before .before in
-    subst (λ (u : Vector). Takes (imageAt (d .args .row) (d .args .position) true (d .args .image) ∷ imageAt (d .args .row) (d .args .position) false u ∷ []) (d .args .t) (d .args .pieces .now) (b .take-image2 .last .1 .1 .1 .1 .1 .0) (b .take-image2 .result))
+    subst
+    (λ (u : Vector). Takes (imageAt (d .args .place) true (d .args .image) ∷ imageAt (d .args .place) false u ∷ [])
+    (d .args .t) (d .args .pieces .now) (b .take-image2 .last .1 .1 .1 .1 .0) (b .take-image2 .result))
     (o .negative .ensures)
     (takes-append (a .take-image .ensures) (b .take-image2 .ensures))
 

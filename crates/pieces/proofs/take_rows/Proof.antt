@@ -1,18 +1,18 @@
 -- `take_rows` meets its contract. The invariant: the images of the rows up to `i` are taken. Assumes nothing.
 use mathlib.Core.Path.{_≡_, refl, _∙_, subst}
 use mathlib.Core.List.{List}
-use Prim.Native.Nat.{_+_, _*_, _≤_, _<_, _-_}
+use Prim.Native.Nat.{ℕ, _+_, _*_, _≤_, _<_, _-_}
 use native.Mathlib.Omega.{arith}
 use lib.ListN.{length, take}
 use lib.Seq.{take-all}
 use Rattle.definitions.specs.Vector.{Vector}
+use Rattle.definitions.specs.Group.{Exchange}
 use Rattle.definitions.specs.Split.{placedOrbits}
-use Rattle.definitions.specs.Lent.{chunks}
-use Rattle.theory.proofs.Lists.{chunks-length, row-end}
+use Rattle.theory.proofs.Lists.{row-end}
 use Rattle.theory.proofs.Rows.{row-at, rows-count}
 use Rattle.vectors.specs.Bounds.{headroom}
-use Rattle.reduction.specs.Areas.{rowsAt}
-use Rattle.reduction.proofs.Lent.{row-within}
+use Rattle.reduction.specs.Areas.{rowsAt, sequencesIn}
+use Rattle.reduction.proofs.Lent.{row-within, sequences-count}
 use Rattle.pieces.specs.Taking.{Takes}
 use Rattle.pieces.proofs.Joining.{takes-nothing}
 use Rattle.pieces.proofs.Turns.{ready-row, takes-row}
@@ -20,47 +20,59 @@ use Rattle.pieces.proofs.take_rows.Statement.{statement}
 use Rattle.pieces.proofs.take_rows.Tie as tie
 
 abbrev Inv-loop : tie.InvT-loop
-Inv-loop list n k table g pieces₀ taken₀ i₀ pieces taken i = (i ≤ k) × Takes (placedOrbits 0 (chunks n g table) (take i (rowsAt n k list))) taken₀ pieces₀ pieces taken × (length pieces ≡ length pieces₀)
+Inv-loop list k table shape pieces₀ n taken₀ i₀ pieces taken i =
+    (i ≤ k)
+    × Takes (placedOrbits 0 (sequencesIn shape table) (take i (rowsAt (shape .n) k list))) taken₀ pieces₀ pieces taken
+    × (length pieces ≡ length pieces₀)
 
 abbrev μ-loop : tie.MeasureT-loop
-μ-loop list n k table g pieces₀ taken₀ i₀ pieces taken i = k - i
+μ-loop list k table shape pieces₀ n taken₀ i₀ pieces taken i = k - i
 
--- row i is one of the rows, and lies within the list
-module _ (c : tie.In-loop Inv-loop μ-loop) where
-  abbrev begun : tie.Start Inv-loop μ-loop
-  begun = c .before .before .before
+-- the sequences of the table, and the rows
+module _ (s : tie.Start Inv-loop μ-loop) where
+  abbrev sequences : List Exchange
+  sequences = sequencesIn (s .args .shape) (s .args .table .now)
 
-  left : c .before .loop .i < length (rowsAt (begun .args .n) (begun .args .k) (begun .args .list .now))
-  left = omega (arith, c .loop-test .taken, rows-count (begun .args .n) (begun .args .k) (begun .args .list .now))
+  abbrev rows : List Vector
+  rows = rowsAt (s .args .shape .n) (s .args .k) (s .args .list .now)
 
-  inside : c .before .loop .i * begun .args .n + begun .args .n ≤ length (begun .args .list .now)
-  inside = omega (arith, row-end (c .before .loop .i) (begun .args .k) (begun .args .n) (c .loop-test .taken), begun .pre .1 .0 .holds)
+  members : length sequences ≡ s .args .shape .g
+  members = sequences-count (s .args .shape) (s .args .table .now)
+
+  counted : length rows ≡ s .args .k
+  counted = rows-count (s .args .shape .n) (s .args .k) (s .args .list .now)
+
+  -- row i lies within the list
+  inside : (i : ℕ) → i < s .args .k → i * s .args .shape .n + s .args .shape .n ≤ length (s .args .list .now)
+  inside i h = omega (arith, row-end i (s .args .k) (s .args .shape .n) h, s .pre .0 .area .holds)
 
 loop-holds : tie.Need-loop-holds Inv-loop μ-loop
 unfolding placedOrbits
 loop-holds c = (omega arith, takes-nothing (c .before .args .t) (c .before .args .pieces .now), refl)
 
 mul-load : tie.Need-mul-load Inv-loop μ-loop
-mul-load c = omega (arith, inside c)
+mul-load c = omega (arith, inside (c .before .before .before) (c .before .loop .i) (c .loop-test .taken))
 
 load-requires : tie.Need-load-requires Inv-loop μ-loop
-load-requires c κs = (begun c .pre .0 .narrow, inside c)
+load-requires c κs =
+    let s = c .before .before .before in
+    (s .pre .0 .isTable .narrow, inside s (c .before .loop .i) (c .loop-test .taken))
 
 take-row-requires : tie.Need-take-row-requires Inv-loop μ-loop
 take-row-requires c κs =
     let l = c .before in
     let b = l .before in
     let a = b .before in
-    let s = begun b in
-    let G = chunks (s .args .n) (s .args .g) (s .args .table .now) in
-    let rows = rowsAt (s .args .n) (s .args .k) (s .args .list .now) in (
-      s .pre .0,
+    let s = a .before .before in
+    let i = a .loop .i in
+    let n = s .args .shape .n in (
+      s .pre .0 .isTable,
       (
-        ready-row G rows (a .loop .i) (left b) (a .loop .inv .1) (rows-count (s .args .n) (s .args .k) (s .args .list .now)) (chunks-length (s .args .n) (s .args .g) (s .args .table .now)) (s .pre .1 .1 .0),
+        ready-row (sequences s) (rows s) i (omega (arith, counted s)) (a .loop .inv .1) (counted s) (members s)
+            (s .pre .1),
         (
-          omega (arith, b .loop-test .taken, s .pre .1 .1 .1 .0),
-          s .pre .1 .1 .1 .1,
-          rw (l .load .ensures) (row-within headroom (s .args .list .now) (a .loop .i * s .args .n) (s .args .n) (s .pre .1 .0 .limited)),
+          (omega (arith, b .loop-test .taken, s .pre .0 .fewRows), s .pre .0 .fewMembers),
+          rw (l .load .ensures) (row-within headroom (s .args .list .now) (i * n) n (s .pre .0 .area .limited)),
         ),
       ),
     )
@@ -77,13 +89,14 @@ loop-again c =
     let l = r .before .before in
     let b = l .before in
     let a = b .before in
-    let s = begun b in
-    let G = chunks (s .args .n) (s .args .g) (s .args .table .now) in
-    let rows = rowsAt (s .args .n) (s .args .k) (s .args .list .now) in
-    let row = l .load .ensures ∙ row-at (s .args .n) (s .args .k) (a .loop .i) (s .args .list .now) (b .loop-test .taken) in (
+    let s = a .before .before in
+    let row =
+    l .load .ensures
+    ∙ row-at (s .args .shape .n) (s .args .k) (a .loop .i) (s .args .list .now) (b .loop-test .taken) in (
       omega arith,
-      takes-row G rows (a .loop .i) (left b) (a .loop .inv .1) (l .load .result) row (r .take-row .ensures),
-      r .take-row .kept .1 .1 .1 .1 .1 .1 .0 ∙ a .loop .inv .2,
+      takes-row (sequences s) (rows s) (a .loop .i) (omega (arith, counted s)) (a .loop .inv .1) (l .load .result) row
+          (r .take-row .ensures),
+      r .take-row .kept .1 .1 .1 .1 .1 .0 ∙ a .loop .inv .2,
     )
 
 same-length : tie.Need-same-length Inv-loop μ-loop
@@ -93,10 +106,12 @@ returns : tie.Need-returns Inv-loop μ-loop
 returns c =
     let a = c .before in
     let s = a .before .before in
-    let G = chunks (s .args .n) (s .args .g) (s .args .table .now) in
-    let rows = rowsAt (s .args .n) (s .args .k) (s .args .list .now) in
-    let all : take (a .loop .i) rows ≡ rows = take-all (a .loop .i) rows (omega (arith, rows-count (s .args .n) (s .args .k) (s .args .list .now))) in
-    subst (λ (l : List Vector). Takes (placedOrbits 0 G l) (s .args .t) (s .args .pieces .now) (a .loop .pieces) (a .loop .taken)) all (a .loop .inv .1)
+    let all : take (a .loop .i) (rows s) ≡ rows s = take-all (a .loop .i) (rows s) (omega (arith, counted s)) in
+    subst
+    (λ (l : List Vector). Takes (placedOrbits 0 (sequences s) l) (s .args .t) (s .args .pieces .now) (a .loop .pieces)
+    (a .loop .taken))
+    all
+    (a .loop .inv .1)
 
 pub take-rows-spec : {M : Type 1} → statement M
 take-rows-spec =

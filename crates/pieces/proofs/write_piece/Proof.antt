@@ -58,20 +58,22 @@ same-length c = search needs
 
 returns : tie.Need-returns
 returns c =
-    let d = c .before .before .before .before .before in
+    let d = c .before .before .before .before .before .before .before in
     let area = d .args .pieces .now in
-    let row = toZ-ofZ (small-fits {k = d .args .row} (omega arith)) in
-    let position = toZ-ofZ (small-fits {k = d .args .position} (omega arith)) in
+    let row = toZ-ofZ (small-fits {k = d .args .place .row} (omega arith)) in
+    let position = toZ-ofZ (small-fits {k = d .args .place .position} (omega arith)) in
     let count = toZ-ofZ (small-fits {k = d .args .count} (omega arith)) in
-    let sign-is = ap (λ (z : ℤ). toZ w32 (ofZ w32 z)) (c .before .before .before .sign .ensures) ∙ toZ-ofZ (sign-fits (d .args .positive)) in
+    let sign-is =
+    ap (λ (z : ℤ). toZ w32 (ofZ w32 z)) (c .before .before .before .sign .ensures)
+    ∙ toZ-ofZ (sign-fits (d .args .positive)) in
     c .before .store .ensures
     ∙ (λ i. paste area (d .args .k * pieceWidth) (row i ∷ position i ∷ sign-is i ∷ count i ∷ []) pieceWidth)
-    ∙ with-room area (d .args .k) (fourNumbers (d .args .row) (d .args .position) (d .args .positive) (d .args .count)) (c .before .before .before .before .if1 .taken)
+    ∙ with-room area (d .args .k) (fourNumbers (d .args .place) (d .args .positive) (d .args .count)) (omega arith)
 
 returns-2 : tie.Need-returns-2
 returns-2 c =
     let a = c .before .args in
-    without-room (a .pieces .now) (a .k) (fourNumbers (a .row) (a .position) (a .positive) (a .count)) (c .if1 .left)
+    without-room (a .pieces .now) (a .k) (fourNumbers (a .place) (a .positive) (a .count)) (omega arith)
 
 pub write-piece-spec : {M : Type 1} → statement M
 write-piece-spec =

@@ -15,7 +15,8 @@ array-borrow-prefix-group : tie.Need-array-borrow-prefix-group
 array-borrow-prefix-group c = search needs
 
 slice-aggregate-check-2 : tie.Need-slice-aggregate-check-2
-slice-aggregate-check-2 c = part-long groupLimit cells (c .before .before .before .args .n) 0 (c .before .before .before .pre)
+slice-aggregate-check-2 c =
+    part-long groupLimit cells (c .before .before .before .args .n) 0 (c .before .before .before .pre)
 
 check-requires : tie.Need-check-requires
 check-requires c κs = search needs

@@ -16,13 +16,16 @@ array-borrow-prefix-list : tie.Need-array-borrow-prefix-list
 array-borrow-prefix-list c = search needs
 
 slice-aggregate-list-in : tie.Need-slice-aggregate-list-in
-slice-aggregate-list-in c = part-long listLimit cells (c .before .before .before .args .n) (pos 0) (c .before .before .before .pre .1)
+slice-aggregate-list-in c =
+    part-long listLimit cells (c .before .before .before .args .n) (pos 0) (c .before .before .before .pre .1)
 
 array-borrow-prefix-group : tie.Need-array-borrow-prefix-group
 array-borrow-prefix-group c = search needs
 
 slice-aggregate-list-in-2 : tie.Need-slice-aggregate-list-in-2
-slice-aggregate-list-in-2 c = part-long groupLimit cells (c .before .before .before .before .args .n) 0 (c .before .before .before .before .pre .1)
+slice-aggregate-list-in-2 c =
+    part-long groupLimit cells (c .before .before .before .before .args .n) 0
+    (c .before .before .before .before .pre .1)
 
 list-in-requires : tie.Need-list-in-requires
 list-in-requires c κs = search needs

@@ -23,13 +23,16 @@ slice-aggregate-write-answer c = search needs
 write-answer-requires : tie.Need-write-answer-requires
 write-answer-requires c κs =
     let s = c .before .before .before .before .before in
-    subst (λ (k : ℕ). k * s .args .width ≤ length (s .args .numbers .now)) (c .before .before .line-count .ensures) (le-div-iff-mul-le (s .pre) .0 (c .before .if1 .taken))
+    subst (λ (k : ℕ). k * s .args .width ≤ length (s .args .numbers .now)) (c .before .before .line-count .ensures)
+    (le-div-iff-mul-le (s .pre) .0 (c .before .if1 .taken))
 
 array-share-prefix-text : tie.Need-array-share-prefix-text
 array-share-prefix-text c = search needs
 
 slice-aggregate-write-all : tie.Need-slice-aggregate-write-all
-slice-aggregate-write-all c = sym (length-take-le (c .before .before .before .write-answer .result) (c .before .before .before .write-answer .last .0) (array-share-prefix-text (c .before)))
+slice-aggregate-write-all c =
+    sym
+    (length-take-le (c .before .before .before .write-answer .result) (c .before .before .before .write-answer .last .0) (array-share-prefix-text (c .before)))
 
 write-all-requires-2 : tie.Need-write-all-requires-2
 write-all-requires-2 c κs = search needs

@@ -19,13 +19,15 @@ array-borrow-prefix-list : tie.Need-array-borrow-prefix-list
 array-borrow-prefix-list c = search needs
 
 slice-aggregate-split-2 : tie.Need-slice-aggregate-split-2
-slice-aggregate-split-2 c = part-long listLimit cells (c .before .before .before .args .n) (pos 0) (c .before .before .before .pre)
+slice-aggregate-split-2 c =
+    part-long listLimit cells (c .before .before .before .args .n) (pos 0) (c .before .before .before .pre)
 
 array-borrow-prefix-group : tie.Need-array-borrow-prefix-group
 array-borrow-prefix-group c = search needs
 
 slice-aggregate-split-3 : tie.Need-slice-aggregate-split-3
-slice-aggregate-split-3 c = part-long groupLimit cells (c .before .before .before .before .args .n) 0 (c .before .before .before .before .pre)
+slice-aggregate-split-3 c =
+    part-long groupLimit cells (c .before .before .before .before .args .n) 0 (c .before .before .before .before .pre)
 
 slice-aggregate-split-4 : tie.Need-slice-aggregate-split-4
 slice-aggregate-split-4 c = search needs

@@ -4,14 +4,14 @@ use Prim.Native.Nat.{_*_, _≤_}
 use native.Mathlib.Omega.{arith}
 use lib.ListN.{length, take}
 use lib.Seq.{length-take-le}
-use Rattle.definitions.specs.Limits.{groupLimit}
+use Rattle.definitions.specs.Limits.{cells, generatorLimit, listLimit}
 use Rattle.orders.specs.declared.Service.the-variants.{Check as CheckService}
-use Rattle.orders.specs.Operands.{Limited, coefficientsIn, rowsIn}
+use Rattle.orders.specs.Operands.{coefficientsIn, rowsIn}
 use Rattle.orders.proofs.Steps.{Accepted}
 use Rattle.orders.proofs.Scans.{accepted}
 use Rattle.orders.proofs.Numbers.{coefficients-count, front, rows-count}
-use Rattle.services.proofs.Rooms.{coefficients-room, exchanges-room, generators-room, rows-room}
-use Rattle.services.proofs.Serving.{order-read, check-says}
+use Rattle.services.proofs.Rooms.{coefficients-room, rows-room}
+use Rattle.services.proofs.Serving.{check-says, order-read}
 use borrow.Author.Needs.{needs}
 use Rattle.services.proofs.check_order.Statement.{statement}
 use Rattle.services.proofs.check_order.Tie as tie
@@ -21,135 +21,126 @@ module _ (s : tie.Start) where
   found : Accepted CheckService (s .args .order .now) (s .args .c)
   found = accepted CheckService (s .args .order .now) (s .args .c) (s .pre .0)
 
-  limited : Limited (s .args .c)
-  limited = found .limited
+  few : s .args .c .cells ≤ cells
+  few = found .limited .cells-ok
 
-  rows-fit : s .args .c .rows * s .args .c .cells ≤ length (s .args .rows .now)
-  rows-fit = omega (arith, s .pre .1 .1 .0, rows-room (s .args .c) limited)
+  rows-few : s .args .c .rows * s .args .c .cells ≤ listLimit * cells
+  rows-few = rows-room (s .args .c) (found .limited)
 
-  coefficients-fit : s .args .c .rows * s .args .c .generators ≤ length (s .args .coefficients .now)
-  coefficients-fit = omega (arith, s .pre .1 .1 .1, coefficients-room (s .args .c) limited)
-
-  group-fits : groupLimit * s .args .c .cells ≤ length (s .args .group .now)
-  group-fits = omega (arith, s .pre .1 .1 .2, limited .cells-ok)
-
--- the function's entry, from the end of `read_order`
-abbrev start : tie.After-read-order → tie.Start
-start c = c .before .before .before .before .before .before .before .before .before .before
+  coefficients-few : s .args .c .rows * s .args .c .generators ≤ listLimit * generatorLimit
+  coefficients-few = coefficients-room (s .args .c) (found .limited)
 
 -- the rows that are lent
 module _ (c : tie.After-read-rows) where
-  abbrev ordered : tie.After-read-order
-  ordered = c .before .before .before .before .before
+  abbrev start : tie.Start
+  start = c .before .before .before .before .before .before .before .before
 
-  rows-lent : start ordered .args .c .rows * start ordered .args .c .cells ≤ length (c .read-rows .last .1 .1 .0)
-  rows-lent = omega (arith, rows-fit (start ordered), c .read-rows .kept .1 .1 .0)
+  rows-lent : start .args .c .rows * start .args .c .cells ≤ length (c .read-rows .last .1 .1 .0)
+  rows-lent = omega (arith, rows-few start, c .read-rows .kept .1 .1 .0)
 
-  rows-read : take (start ordered .args .c .rows * start ordered .args .c .cells) (c .read-rows .last .1 .1 .0) ≡ rowsIn (start ordered .args .order .now) (start ordered .args .c)
+  rows-read :
+      take (start .args .c .rows * start .args .c .cells) (c .read-rows .last .1 .1 .0)
+      ≡ rowsIn (start .args .order .now) (start .args .c)
   rows-read =
-      let a = start ordered .args in
-      ap (take (a .c .rows * a .c .cells)) (c .read-rows .ensures) ∙ front (a .rows .now) (rowsIn (a .order .now) (a .c)) (a .c .rows * a .c .cells) (rows-count (a .order .now) (a .c)) (rows-fit (start ordered))
+      let a = start .args in
+      ap (take (a .c .rows * a .c .cells)) (c .read-rows .ensures)
+      ∙ front _ (rowsIn (a .order .now) (a .c)) (a .c .rows * a .c .cells) (rows-count (a .order .now) (a .c))
+      (rows-few start)
 
 -- the coefficients that are lent
 module _ (c : tie.After-read-coefficients) where
-  abbrev rowed : tie.After-read-rows
-  rowed = c .before .before .before
+  abbrev begin : tie.Start
+  begin = c .before .before .before .before .before .before .before .before .before .before .before
 
-  coefficients-lent : start (ordered rowed) .args .c .rows * start (ordered rowed) .args .c .generators ≤ length (c .read-coefficients .last .1 .1 .0)
-  coefficients-lent = omega (arith, coefficients-fit (start (ordered rowed)), c .read-coefficients .kept .1 .1 .0)
+  coefficients-lent : begin .args .c .rows * begin .args .c .generators ≤ length (c .read-coefficients .last .1 .1 .0)
+  coefficients-lent = omega (arith, coefficients-few begin, c .read-coefficients .kept .1 .1 .0)
 
-  coefficients-read : take (start (ordered rowed) .args .c .rows * start (ordered rowed) .args .c .generators) (c .read-coefficients .last .1 .1 .0) ≡ coefficientsIn (start (ordered rowed) .args .order .now) (start (ordered rowed) .args .c)
+  coefficients-read :
+      take (begin .args .c .rows * begin .args .c .generators) (c .read-coefficients .last .1 .1 .0)
+      ≡ coefficientsIn (begin .args .order .now) (begin .args .c)
   coefficients-read =
-      let s = start (ordered rowed) in
-      let a = s .args in
+      let a = begin .args in
       ap (take (a .c .rows * a .c .generators)) (c .read-coefficients .ensures)
-      ∙ front (a .coefficients .now) (coefficientsIn (a .order .now) (a .c)) (a .c .rows * a .c .generators) (coefficients-count (a .order .now) (a .c)) (coefficients-fit s)
+      ∙ front _ (coefficientsIn (a .order .now) (a .c)) (a .c .rows * a .c .generators)
+      (coefficients-count (a .order .now) (a .c)) (coefficients-few begin)
 
 mul-m : tie.Need-mul-m
-mul-m c = let s = c .before .before .before .before in omega (arith, generators-room (s .args .c) (limited s))
+mul-m c = search needs
 
 mul-e : tie.Need-mul-e
-mul-e c = let s = c .before .before .before .before .before in omega (arith, exchanges-room (s .args .c) (limited s))
+mul-e c = search needs
 
 mul-k : tie.Need-mul-k
-mul-k c = let s = c .before .before .before .before .before .before in omega (arith, rows-room (s .args .c) (limited s))
+mul-k c = omega (arith, rows-few (c .before .before .before .before .before))
 
 mul-q : tie.Need-mul-q
-mul-q c = let s = c .before .before .before .before .before .before .before in omega (arith, coefficients-room (s .args .c) (limited s))
+mul-q c = omega (arith, coefficients-few (c .before .before .before .before .before .before))
 
 mul-g : tie.Need-mul-g
-mul-g c = omega (arith, limited (c .before .before .before .before .before .before .before) .cells-ok)
+mul-g c = omega (arith, few (c .before .before .before .before .before .before))
 
-read-order-requires : tie.Need-read-order-requires
-read-order-requires c κs = let s = c .before .before .before .before .before .before .before .before .before in ((limited s, omega (arith, found s .long)), s .pre .1 .0)
+slice-aggregate-read-rows : tie.Need-slice-aggregate-read-rows
+slice-aggregate-read-rows c = search needs
 
 read-rows-requires : tie.Need-read-rows-requires
-read-rows-requires c κs = let s = c .before .before .before .before .before .before .before .before .before .before .before .before .before .before in (limited s, omega (arith, found s .long), rows-fit s)
+read-rows-requires c κs =
+    let s = c .before .before .before .before .before .before .before in
+    (found s .limited, omega (arith, found s .long), rows-few s)
+
+slice-aggregate-read-coefficients : tie.Need-slice-aggregate-read-coefficients
+slice-aggregate-read-coefficients c = search needs
 
 read-coefficients-requires : tie.Need-read-coefficients-requires
-read-coefficients-requires c κs = let s = c .before .before .before .before .before .before .before .before .before .before .before .before .before .before .before .before .before in (limited s, omega (arith, found s .long), coefficients-fit s)
-
-slice-reshare-prefix-check : tie.Need-slice-reshare-prefix-check
-slice-reshare-prefix-check c = c .before .before .before .before .before .before .before .before .before .read-order .ensures .generatorsFit
+read-coefficients-requires c κs =
+    let s = c .before .before .before .before .before .before .before .before .before .before in
+    (found s .limited, omega (arith, found s .long), coefficients-few s)
 
 slice-aggregate-check : tie.Need-slice-aggregate-check
-slice-aggregate-check c = sym (length-take-le _ _ (c .before .before .before .before .before .before .before .before .before .before .read-order .ensures .generatorsFit))
-
-slice-reshare-prefix-check-2 : tie.Need-slice-reshare-prefix-check-2
-slice-reshare-prefix-check-2 c = c .before .before .before .before .before .before .before .before .before .before .read-order .ensures .exchangesFit
+slice-aggregate-check c =
+    sym
+    (length-take-le _ _ (c .before .before .before .before .before .before .before .before .before .before .before .before .before .pre .1 .generatorsFit))
 
 slice-aggregate-check-2 : tie.Need-slice-aggregate-check-2
-slice-aggregate-check-2 c = sym (length-take-le _ _ (c .before .before .before .before .before .before .before .before .before .before .before .read-order .ensures .exchangesFit))
+slice-aggregate-check-2 c =
+    sym
+    (length-take-le _ _ (c .before .before .before .before .before .before .before .before .before .before .before .before .before .before .pre .1 .exchangesFit))
 
-slice-reshare-prefix-check-3 : tie.Need-slice-reshare-prefix-check-3
-slice-reshare-prefix-check-3 c = rows-lent (c .before .before .before .before .before .before)
+array-share-prefix-rows : tie.Need-array-share-prefix-rows
+array-share-prefix-rows c = rows-lent (c .before .before .before .before .before .before)
 
 slice-aggregate-check-3 : tie.Need-slice-aggregate-check-3
-slice-aggregate-check-3 c = sym (length-take-le _ _ (rows-lent (c .before .before .before .before .before .before .before)))
+slice-aggregate-check-3 c =
+    sym (length-take-le _ _ (rows-lent (c .before .before .before .before .before .before .before)))
 
-slice-reshare-prefix-check-4 : tie.Need-slice-reshare-prefix-check-4
-slice-reshare-prefix-check-4 c = coefficients-lent (c .before .before .before .before)
+array-share-prefix-coefficients : tie.Need-array-share-prefix-coefficients
+array-share-prefix-coefficients c = coefficients-lent (c .before .before .before .before)
 
 slice-aggregate-check-4 : tie.Need-slice-aggregate-check-4
 slice-aggregate-check-4 c = sym (length-take-le _ _ (coefficients-lent (c .before .before .before .before .before)))
 
-slice-relend-prefix-check : tie.Need-slice-relend-prefix-check
-slice-relend-prefix-check c = group-fits (c .before .before .before .before .before .before .before .before .before .before .before .before .before .before .before .before .before .before .before .before .before .before .before)
+array-borrow-prefix-group : tie.Need-array-borrow-prefix-group
+array-borrow-prefix-group c =
+    omega
+    (arith, few (c .before .before .before .before .before .before .before .before .before .before .before .before .before .before .before .before))
 
 slice-aggregate-check-5 : tie.Need-slice-aggregate-check-5
-slice-aggregate-check-5 c = sym (length-take-le _ _ (group-fits (c .before .before .before .before .before .before .before .before .before .before .before .before .before .before .before .before .before .before .before .before .before .before .before .before)))
+slice-aggregate-check-5 c =
+    sym
+    (length-take-le _ _ (omega (arith, few (c .before .before .before .before .before .before .before .before .before .before .before .before .before .before .before .before .before))))
 
 check-requires : tie.Need-check-requires
 check-requires c κs = search needs
 
-same-length : tie.Need-same-length
-same-length c = search needs
-
-same-length-2 : tie.Need-same-length-2
-same-length-2 c = search needs
-
-same-length-3 : tie.Need-same-length-3
-same-length-3 c = search needs
-
-same-length-4 : tie.Need-same-length-4
-same-length-4 c = search needs
-
-same-length-5 : tie.Need-same-length-5
-same-length-5 c = search needs
-
 returns : tie.Need-returns
 returns c =
-    let k = c .before .before in
-    let q = k .before .before .before .before .before .before .before in
-    let r = rowed q in
-    let d = ordered r in
-    let s = start d in
+    let r = c .before .before .before .before .before .before .before .before .before .before .before in
+    let s = start r in
     let a = s .args in
-    check-says (a .order .now) (a .c) (k .check .ensures)
-    (order-read (a .order .now) (a .c) (d .read-order .ensures))
+    check-says (a .order .now) (a .c) (c .before .check .ensures)
+    (order-read (a .order .now) (a .c) (s .pre .1))
     (rows-read r)
-    (coefficients-read q)
-    (length-take-le _ _ (group-fits s))
+    (coefficients-read (c .before .before .before .before .before .before .before .before))
+    (length-take-le _ _ (omega (arith, few s)))
 
 pub check-order-spec : {M : Type 1} → statement M
 check-order-spec =
@@ -160,23 +151,17 @@ check-order-spec =
     mul-k
     mul-q
     mul-g
-    read-order-requires
+    slice-aggregate-read-rows
     read-rows-requires
+    slice-aggregate-read-coefficients
     read-coefficients-requires
-    slice-reshare-prefix-check
     slice-aggregate-check
-    slice-reshare-prefix-check-2
     slice-aggregate-check-2
-    slice-reshare-prefix-check-3
+    array-share-prefix-rows
     slice-aggregate-check-3
-    slice-reshare-prefix-check-4
+    array-share-prefix-coefficients
     slice-aggregate-check-4
-    slice-relend-prefix-check
+    array-borrow-prefix-group
     slice-aggregate-check-5
     check-requires
-    same-length
-    same-length-2
-    same-length-3
-    same-length-4
-    same-length-5
     returns)

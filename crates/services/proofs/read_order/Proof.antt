@@ -11,10 +11,14 @@ use Rattle.services.proofs.read_order.Statement.{statement}
 use Rattle.services.proofs.read_order.Tie as tie
 
 read-generators-requires : tie.Need-read-generators-requires
-read-generators-requires c κs = let s = c .before .before .before in (s .pre .0 .0, s .pre .0 .1, omega (arith, s .pre .1 .0, generators-room (s .args .c) (s .pre .0 .0)))
+read-generators-requires c κs =
+    let s = c .before .before .before in
+    (s .pre .limited, s .pre .long, omega (arith, s .pre .generatorsFit, generators-room (s .args .c) (s .pre .limited)))
 
 read-exchanges-requires : tie.Need-read-exchanges-requires
-read-exchanges-requires c κs = let s = c .before .before .before .before .before .before in (s .pre .0 .0, s .pre .0 .1, omega (arith, s .pre .1 .1, exchanges-room (s .args .c) (s .pre .0 .0)))
+read-exchanges-requires c κs =
+    let s = c .before .before .before .before .before .before in
+    (s .pre .limited, s .pre .long, omega (arith, s .pre .exchangesFit, exchanges-room (s .args .c) (s .pre .limited)))
 
 same-length : tie.Need-same-length
 same-length c = search needs
@@ -26,16 +30,24 @@ returns : tie.Need-returns
 returns c =
     let s = c .before .before .before .before .before .before .before .before .before in
     let a = s .args in
-    let h = s .pre .0 .0 in
+    let h = s .pre .limited in
     let g = c .before .before .before .before .before .read-generators in
     let e = c .before .before .read-exchanges in
-    let gs : a .c .generators * a .c .cells ≤ length (a .generators .now) = omega (arith, s .pre .1 .0, generators-room (a .c) h) in
-    let es : a .c .exchanges * a .c .cells ≤ length (a .exchanges .now) = omega (arith, s .pre .1 .1, exchanges-room (a .c) h) in
+    let gs : a .c .generators * a .c .cells ≤ length (a .generators .now) =
+    omega (arith, s .pre .generatorsFit, generators-room (a .c) h) in
+    let es : a .c .exchanges * a .c .cells ≤ length (a .exchanges .now) =
+    omega (arith, s .pre .exchangesFit, exchanges-room (a .c) h) in
     record {
       generatorsFit = omega (arith, gs, g .kept .1 .1 .0);
       exchangesFit = omega (arith, es, e .kept .1 .1 .0);
-      generatorsAre = ap (take (a .c .generators * a .c .cells)) (g .ensures) ∙ front (a .generators .now) (generatorsIn (a .order .now) (a .c)) (a .c .generators * a .c .cells) (generators-count (a .order .now) (a .c)) gs;
-      exchangesAre = ap (take (a .c .exchanges * a .c .cells)) (e .ensures) ∙ front (a .exchanges .now) (exchangesIn (a .order .now) (a .c)) (a .c .exchanges * a .c .cells) (exchanges-count (a .order .now) (a .c)) es;
+      generatorsAre =
+          ap (take (a .c .generators * a .c .cells)) (g .ensures)
+          ∙ front (a .generators .now) (generatorsIn (a .order .now) (a .c)) (a .c .generators * a .c .cells)
+          (generators-count (a .order .now) (a .c)) gs;
+      exchangesAre =
+          ap (take (a .c .exchanges * a .c .cells)) (e .ensures)
+          ∙ front (a .exchanges .now) (exchangesIn (a .order .now) (a .c)) (a .c .exchanges * a .c .cells)
+          (exchanges-count (a .order .now) (a .c)) es;
     }
 
 pub read-order-spec : {M : Type 1} → statement M

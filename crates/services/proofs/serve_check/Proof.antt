@@ -2,7 +2,7 @@
 use mathlib.Core.Path.{sym, _∙_, ap}
 use Rattle.orders.specs.declared.Scanned.{Scanned}
 use Rattle.orders.specs.declared.Service.the-variants.{Check as CheckService}
-use Rattle.files.specs.Services.{served, servedBy}
+use Rattle.promises.specs.Services.{served, servedBy}
 use borrow.Author.Needs.{needs}
 use Rattle.services.proofs.serve_check.Statement.{statement}
 use Rattle.services.proofs.serve_check.Tie as tie
@@ -21,11 +21,18 @@ check-file-requires c κs = sym (c .before .before .before .scan .ensures) ∙ c
 
 returns : tie.Need-returns
 unfolding served servedBy
-returns c = ap (λ (s : Scanned). servedBy CheckService (c .before .before .before .before .before .args .order .now) s .answer) (sym (c .before .found .given .1) ∙ c .before .before .before .scan .ensures)
+returns c =
+    ap
+    (λ (s : Scanned). servedBy CheckService (c .before .before .before .before .before .args .order .now) s .answer)
+    (sym (c .before .found .given .1) ∙ c .before .before .before .scan .ensures)
 
 returns-2 : tie.Need-returns-2
 unfolding served
-returns-2 c = c .check-file .ensures ∙ ap (λ (s : Scanned). servedBy CheckService (c .before .before .before .before .before .before .args .order .now) s .answer) (sym (c .before .before .found2 .given .1) ∙ c .before .before .before .before .scan .ensures)
+returns-2 c =
+    c .check-file .ensures
+    ∙ ap
+    (λ (s : Scanned). servedBy CheckService (c .before .before .before .before .before .before .args .order .now) s .answer)
+    (sym (c .before .before .found2 .given .1) ∙ c .before .before .before .before .scan .ensures)
 
 pub serve-check-spec : {M : Type 1} → statement M
 serve-check-spec =

@@ -16,16 +16,22 @@ enum-known-found-2 : tie.Need-enum-known-found-2
 enum-known-found-2 c = search needs
 
 list-file-requires : tie.Need-list-file-requires
-list-file-requires c κs = (sym (c .before .before .before .before .scan .ensures) ∙ c .before .before .found2 .given .1, c .before .before .before .before .before .before .pre)
+list-file-requires c κs =
+    (sym (c .before .before .before .before .scan .ensures) ∙ c .before .before .found2 .given .1, c .before .before .before .before .before .before .pre)
 
 returns : tie.Need-returns
-returns c = refused-serves ListService (c .before .before .before .before .before .args .order .now) _ _ (sym (c .before .before .before .scan .ensures) ∙ c .before .found .given .1)
+returns c =
+    refused-serves ListService (c .before .before .before .before .before .args .order .now) _ _
+    (sym (c .before .before .before .scan .ensures) ∙ c .before .found .given .1)
 
 same-length : tie.Need-same-length
 same-length c = search needs
 
 returns-2 : tie.Need-returns-2
-returns-2 c = accepted-serves ListService (c .before .before .before .before .before .before .before .before .args .order .now) (sym (c .before .before .before .before .before .before .scan .ensures) ∙ c .before .before .before .before .found2 .given .1) (c .before .list-file .ensures)
+returns-2 c =
+    accepted-serves ListService (c .before .before .before .before .before .before .before .before .args .order .now)
+    (sym (c .before .before .before .before .before .before .scan .ensures) ∙ c .before .before .before .before .found2 .given .1)
+    (c .before .list-file .ensures)
 
 pub serve-list-spec : {M : Type 1} → statement M
 serve-list-spec =

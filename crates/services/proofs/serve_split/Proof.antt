@@ -16,16 +16,22 @@ enum-known-found-2 : tie.Need-enum-known-found-2
 enum-known-found-2 c = search needs
 
 split-file-requires : tie.Need-split-file-requires
-split-file-requires c κs = (sym (c .before .before .before .before .scan .ensures) ∙ c .before .before .found2 .given .1, c .before .before .before .before .before .before .pre)
+split-file-requires c κs =
+    (sym (c .before .before .before .before .scan .ensures) ∙ c .before .before .found2 .given .1, c .before .before .before .before .before .before .pre)
 
 returns : tie.Need-returns
-returns c = refused-serves SplitService (c .before .before .before .before .before .args .order .now) _ _ (sym (c .before .before .before .scan .ensures) ∙ c .before .found .given .1)
+returns c =
+    refused-serves SplitService (c .before .before .before .before .before .args .order .now) _ _
+    (sym (c .before .before .before .scan .ensures) ∙ c .before .found .given .1)
 
 same-length : tie.Need-same-length
 same-length c = search needs
 
 returns-2 : tie.Need-returns-2
-returns-2 c = accepted-serves SplitService (c .before .before .before .before .before .before .before .before .args .order .now) (sym (c .before .before .before .before .before .before .scan .ensures) ∙ c .before .before .before .before .found2 .given .1) (c .before .split-file .ensures)
+returns-2 c =
+    accepted-serves SplitService (c .before .before .before .before .before .before .before .before .args .order .now)
+    (sym (c .before .before .before .before .before .before .scan .ensures) ∙ c .before .before .before .before .found2 .given .1)
+    (c .before .split-file .ensures)
 
 pub serve-split-spec : {M : Type 1} → statement M
 serve-split-spec =

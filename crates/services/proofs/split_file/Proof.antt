@@ -1,8 +1,20 @@
--- `split_file` meets its contract: its areas are large enough for any order. Assumes nothing.
-use native.Mathlib.Omega.{arith}
+-- `split_file` meets its contract: the areas have room for any order. Assumes nothing.
+use Rattle.orders.specs.declared.Service.the-variants.{Split as SplitService}
+use Rattle.services.proofs.Rooms.{order-fits}
 use borrow.Author.Needs.{needs}
 use Rattle.services.proofs.split_file.Statement.{statement}
 use Rattle.services.proofs.split_file.Tie as tie
+
+slice-aggregate-read-order : tie.Need-slice-aggregate-read-order
+slice-aggregate-read-order c = search needs
+
+slice-aggregate-read-order-2 : tie.Need-slice-aggregate-read-order-2
+slice-aggregate-read-order-2 c = search needs
+
+read-order-requires : tie.Need-read-order-requires
+read-order-requires c κs =
+    let s = c .before .before .before in
+    order-fits SplitService (s .args .order .now) (s .args .c) (s .pre .0) (search needs) (search needs)
 
 slice-aggregate-split-order : tie.Need-slice-aggregate-split-order
 slice-aggregate-split-order c = search needs
@@ -10,17 +22,8 @@ slice-aggregate-split-order c = search needs
 slice-aggregate-split-order-2 : tie.Need-slice-aggregate-split-order-2
 slice-aggregate-split-order-2 c = search needs
 
-slice-aggregate-split-order-3 : tie.Need-slice-aggregate-split-order-3
-slice-aggregate-split-order-3 c = search needs
-
-slice-aggregate-split-order-4 : tie.Need-slice-aggregate-split-order-4
-slice-aggregate-split-order-4 c = search needs
-
-slice-aggregate-split-order-5 : tie.Need-slice-aggregate-split-order-5
-slice-aggregate-split-order-5 c = search needs
-
 split-order-requires : tie.Need-split-order-requires
-split-order-requires c κs = let s = c .before .before .before .before .before .before .before in (s .pre .0, ((omega arith, omega arith, omega arith), (omega arith, omega arith, s .pre .1)))
+split-order-requires c κs = search needs
 
 same-length : tie.Need-same-length
 same-length c = search needs
@@ -32,11 +35,11 @@ pub split-file-spec : {M : Type 1} → statement M
 split-file-spec =
     tie.close
     (tie.spec
+    slice-aggregate-read-order
+    slice-aggregate-read-order-2
+    read-order-requires
     slice-aggregate-split-order
     slice-aggregate-split-order-2
-    slice-aggregate-split-order-3
-    slice-aggregate-split-order-4
-    slice-aggregate-split-order-5
     split-order-requires
     same-length
     returns)

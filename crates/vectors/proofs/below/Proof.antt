@@ -1,24 +1,24 @@
 -- `below` meets its contract. The invariant: the answer for the cells left is the answer. Assumes nothing.
-use mathlib.Core.Path.{_≡_, refl}
-use Prim.Native.Nat.{_≤_, _-_}
+use mathlib.Core.Path.{_≡_, refl, sym, _∙_}
+use Prim.Native.Nat.{_-_}
 use native.Mathlib.Omega.{arith}
 use borrow.Author.Tests.{not-true, not-false}
 use lib.ListN.{drop}
 use Rattle.definitions.specs.Limits.{cells}
 use Rattle.definitions.specs.Vector.{cellBelow, below}
 use Rattle.vectors.proofs.Cells.{read-back}
-use Rattle.vectors.proofs.Kit.{cellAt, below-stop, below-more, below-end}
+use Rattle.vectors.proofs.Kit.{cellAt, every-below, every-stop, every-more, every-end}
 use Rattle.vectors.proofs.below.Statement.{statement}
 use Rattle.vectors.proofs.below.Tie as tie
 
 abbrev Inv-loop : tie.InvT-loop
-Inv-loop u v i₀ i = (i ≤ cells) × (below (drop i u) (drop i v) ≡ below u v)
+Inv-loop u v i₀ i = below (drop i u) (drop i v) ≡ below u v
 
 abbrev μ-loop : tie.MeasureT-loop
 μ-loop u v i₀ i = cells - i
 
 loop-holds : tie.Need-loop-holds Inv-loop μ-loop
-loop-holds c = (omega arith, refl)
+loop-holds c = refl
 
 mul-cell-below : tie.Need-mul-cell-below Inv-loop μ-loop
 mul-cell-below c = omega arith
@@ -48,7 +48,7 @@ cell c =
 returns : tie.Need-returns Inv-loop μ-loop
 returns c =
     let a = c .before .before .before .before .before in
-    below-stop (a .before .args .t1) (a .before .args .t2) (a .loop .i) (a .loop .inv .1) (omega arith) (omega arith) (cell (c .before)) (not-true _ (c .if1 .taken))
+    every-stop every-below (a .before .args .t1) (a .before .args .t2) (a .loop .i) (a .loop .inv) (omega arith) (omega arith) (sym (cell (c .before)) ∙ not-true _ (c .if1 .taken))
 
 add-i : tie.Need-add-i Inv-loop μ-loop
 add-i c = omega arith
@@ -59,10 +59,10 @@ loop-less c = omega arith
 loop-again : tie.Need-loop-again Inv-loop μ-loop
 loop-again c =
     let a = c .before .before .before .before .before in
-    (omega arith, below-more (a .before .args .t1) (a .before .args .t2) (a .loop .i) (a .loop .inv .1) (omega arith) (omega arith) (cell (c .before)) (not-false _ (c .if1 .left)))
+    every-more every-below (a .before .args .t1) (a .before .args .t2) (a .loop .i) (a .loop .inv) (omega arith) (omega arith) (sym (cell (c .before)) ∙ not-false _ (c .if1 .left))
 
 returns-2 : tie.Need-returns-2 Inv-loop μ-loop
-returns-2 c = below-end _ _ (c .before .loop .i) (c .before .loop .inv .1) (omega arith) (omega arith)
+returns-2 c = every-end every-below _ _ (c .before .loop .i) (c .before .loop .inv) (omega arith) (omega arith)
 
 pub below-spec : {M : Type 1} → statement M
 below-spec =

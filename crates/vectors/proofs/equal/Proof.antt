@@ -1,7 +1,7 @@
 -- `equal` meets its contract. The invariant: the answer for the cells left is the answer. Assumes nothing.
 use mathlib.Core.Path.{_≡_, refl}
 use mathlib.Core.Bool.{true}
-use Prim.Native.Nat.{_≤_, _-_}
+use Prim.Native.Nat.{_-_}
 use native.Mathlib.Omega.{arith}
 use lib.IntN.{ℤ}
 use lib.ListN.{drop}
@@ -10,18 +10,18 @@ use mir.Val.{ofZ}
 use Rattle.definitions.specs.Limits.{cells}
 use Rattle.definitions.specs.Vector.{equalCell, equal}
 use Rattle.vectors.proofs.Cells.{read-back, equal-yes, equal-no}
-use Rattle.vectors.proofs.Kit.{cellAt, equal-stop, equal-more, equal-end}
+use Rattle.vectors.proofs.Kit.{cellAt, every-equal, every-stop, every-more, every-end}
 use Rattle.vectors.proofs.equal.Statement.{statement}
 use Rattle.vectors.proofs.equal.Tie as tie
 
 abbrev Inv-loop : tie.InvT-loop
-Inv-loop u v i₀ i = (i ≤ cells) × (equal (drop i u) (drop i v) ≡ equal u v)
+Inv-loop u v i₀ i = equal (drop i u) (drop i v) ≡ equal u v
 
 abbrev μ-loop : tie.MeasureT-loop
 μ-loop u v i₀ i = cells - i
 
 loop-holds : tie.Need-loop-holds Inv-loop μ-loop
-loop-holds c = (omega arith, refl)
+loop-holds c = refl
 
 mul-if1 : tie.Need-mul-if1 Inv-loop μ-loop
 mul-if1 c = omega arith
@@ -49,7 +49,7 @@ module _ (c : tie.After-if13 Inv-loop μ-loop) where
 returns : tie.Need-returns Inv-loop μ-loop
 returns c =
     let a = c .before .before .before .before in
-    equal-stop (a .before .args .t1) (a .before .args .t2) (a .loop .i) (a .loop .inv .1) (omega arith) (omega arith) (equal-no (one (c .before)) (two (c .before)) (c .if1 .taken))
+    every-stop every-equal (a .before .args .t1) (a .before .args .t2) (a .loop .i) (a .loop .inv) (omega arith) (omega arith) (equal-no (one (c .before)) (two (c .before)) (c .if1 .taken))
 
 add-i : tie.Need-add-i Inv-loop μ-loop
 add-i c = omega arith
@@ -60,10 +60,10 @@ loop-less c = omega arith
 loop-again : tie.Need-loop-again Inv-loop μ-loop
 loop-again c =
     let a = c .before .before .before .before in
-    (omega arith, equal-more (a .before .args .t1) (a .before .args .t2) (a .loop .i) (a .loop .inv .1) (omega arith) (omega arith) (same (c .before) (c .if1 .left)))
+    every-more every-equal (a .before .args .t1) (a .before .args .t2) (a .loop .i) (a .loop .inv) (omega arith) (omega arith) (same (c .before) (c .if1 .left))
 
 returns-2 : tie.Need-returns-2 Inv-loop μ-loop
-returns-2 c = equal-end _ _ (c .before .loop .i) (c .before .loop .inv .1) (omega arith) (omega arith)
+returns-2 c = every-end every-equal _ _ (c .before .loop .i) (c .before .loop .inv) (omega arith) (omega arith)
 
 pub equal-spec : {M : Type 1} → statement M
 equal-spec =

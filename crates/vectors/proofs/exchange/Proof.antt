@@ -1,4 +1,5 @@
--- `exchange` meets its contract. The invariant: the cells up to `j` are those that `s` names, and the others those of `v`. Assumes nothing.
+-- `exchange` meets its contract. The invariant: the cells up to `j` are those that `s` names, and the others those of
+-- `v`. Assumes nothing.
 use mathlib.Core.Path.{_≡_, sym, ap, _∙_}
 use mathlib.Core.List.{_++_}
 use Prim.Native.Nat.{ℕ, _≤_, _<_, _-_}

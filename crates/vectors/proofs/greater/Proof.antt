@@ -1,6 +1,6 @@
 -- `greater` meets its contract. The invariant: the answer for the cells left is the answer. Assumes nothing.
 use mathlib.Core.Path.{_≡_, refl}
-use Prim.Native.Nat.{_≤_, _-_}
+use Prim.Native.Nat.{_-_}
 use native.Mathlib.Omega.{arith}
 use lib.IntN.{ℤ}
 use lib.ListN.{drop}
@@ -14,13 +14,13 @@ use Rattle.vectors.proofs.greater.Statement.{statement}
 use Rattle.vectors.proofs.greater.Tie as tie
 
 abbrev Inv-loop : tie.InvT-loop
-Inv-loop u v i₀ i = (i ≤ cells) × (greater (drop i u) (drop i v) ≡ greater u v)
+Inv-loop u v i₀ i = greater (drop i u) (drop i v) ≡ greater u v
 
 abbrev μ-loop : tie.MeasureT-loop
 μ-loop u v i₀ i = cells - i
 
 loop-holds : tie.Need-loop-holds Inv-loop μ-loop
-loop-holds c = (omega arith, refl)
+loop-holds c = refl
 
 mul-a : tie.Need-mul-a Inv-loop μ-loop
 mul-a c = omega arith
@@ -52,7 +52,7 @@ returns : tie.Need-returns Inv-loop μ-loop
 returns c =
     let a = c .before .before .before .before in
     let more = rw (one-read (c .before), two-read (c .before)) at (c .if1 .taken) in
-    greater-yes (a .before .args .t1) (a .before .args .t2) (a .loop .i) (a .loop .inv .1) (omega arith) (omega arith) more
+    greater-yes (a .before .args .t1) (a .before .args .t2) (a .loop .i) (a .loop .inv) (omega arith) (omega arith) more
 
 returns-2 : tie.Need-returns-2 Inv-loop μ-loop
 returns-2 c =
@@ -60,7 +60,7 @@ returns-2 c =
     let a = b .before .before .before in
     let more = rw (one-read b, two-read b) at (c .before .if1 .left) in
     let less = rw (one-read b, two-read b) at (c .if2 .taken) in
-    greater-no (a .before .args .t1) (a .before .args .t2) (a .loop .i) (a .loop .inv .1) (omega arith) (omega arith) more less
+    greater-no (a .before .args .t1) (a .before .args .t2) (a .loop .i) (a .loop .inv) (omega arith) (omega arith) more less
 
 add-i : tie.Need-add-i Inv-loop μ-loop
 add-i c = omega arith
@@ -74,10 +74,10 @@ loop-again c =
     let a = b .before .before .before in
     let more = rw (one-read b, two-read b) at (c .before .if1 .left) in
     let less = rw (one-read b, two-read b) at (c .if2 .left) in
-    (omega arith, greater-more (a .before .args .t1) (a .before .args .t2) (a .loop .i) (a .loop .inv .1) (omega arith) (omega arith) more less)
+    greater-more (a .before .args .t1) (a .before .args .t2) (a .loop .i) (a .loop .inv) (omega arith) (omega arith) more less
 
 returns-3 : tie.Need-returns-3 Inv-loop μ-loop
-returns-3 c = greater-end _ _ (c .before .loop .i) (c .before .loop .inv .1) (omega arith)
+returns-3 c = greater-end _ _ (c .before .loop .i) (c .before .loop .inv) (omega arith)
 
 pub greater-spec : {M : Type 1} → statement M
 greater-spec =

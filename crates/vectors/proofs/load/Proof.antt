@@ -1,4 +1,5 @@
--- `load` meets its contract. The invariant: the cells up to `j` are those of the row, and the others zero. Assumes nothing.
+-- `load` meets its contract. The invariant: the cells up to `j` are those of the row, and the others zero. Assumes
+-- nothing.
 use mathlib.Core.Path.{_≡_, sym, _∙_}
 use Prim.Native.Nat.{_≤_, _+_, _-_}
 use native.Mathlib.Omega.{arith}

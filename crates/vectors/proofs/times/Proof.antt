@@ -1,6 +1,7 @@
--- `times` meets its contract. The invariant: the answer for the cells left, from the bound, is the answer. Assumes nothing.
+-- `times` meets its contract. The invariant: the answer for the cells left, from the bound, is the answer. Assumes
+-- nothing.
 use mathlib.Core.Path.{_≡_, sym, ap, _∙_}
-use Prim.Native.Nat.{ℕ, _≤_, _+_, _-_}
+use Prim.Native.Nat.{ℕ, _+_, _-_}
 use native.Mathlib.Omega.{arith}
 use lib.ListN.{drop}
 use Rattle.definitions.specs.Limits.{cells}
@@ -11,7 +12,7 @@ use Rattle.vectors.proofs.times.Statement.{statement}
 use Rattle.vectors.proofs.times.Tie as tie
 
 abbrev Inv-loop : tie.InvT-loop
-Inv-loop u v bound₀ i₀ bound i = (i ≤ cells) × (timesUpTo bound (drop i u) (drop i v) ≡ times u v)
+Inv-loop u v bound₀ i₀ bound i = timesUpTo bound (drop i u) (drop i v) ≡ times u v
 
 abbrev μ-loop : tie.MeasureT-loop
 μ-loop u v bound₀ i₀ bound i = cells - i
@@ -23,7 +24,7 @@ loop-holds : tie.Need-loop-holds Inv-loop μ-loop
 unfolding times
 loop-holds c =
     let s = c .before .args in
-    (omega arith, ap (λ (bound : ℕ). timesUpTo bound (s .t1) (s .t2)) (c .weight .ensures))
+    ap (λ (bound : ℕ). timesUpTo bound (s .t1) (s .t2)) (c .weight .ensures)
 
 mul-cell-times : tie.Need-mul-cell-times Inv-loop μ-loop
 mul-cell-times c = omega arith
@@ -65,13 +66,13 @@ loop-again c =
     let v = a .before .before .args .t2 in
     let i = a .loop .i in
     let one = times-cell (a .loop .bound) u v i (omega arith) (omega arith) in
-    (omega arith, ap (λ (bound : ℕ). timesUpTo bound (drop (i + 1) u) (drop (i + 1) v)) (cell c) ∙ sym one ∙ a .loop .inv .1)
+    ap (λ (bound : ℕ). timesUpTo bound (drop (i + 1) u) (drop (i + 1) v)) (cell c) ∙ sym one ∙ a .loop .inv
 
 returns : tie.Need-returns Inv-loop μ-loop
 returns c =
     let a = c .before in
     let s = a .before .before .args in
-    sym (times-end (a .loop .bound) (s .t1) (s .t2) (a .loop .i) (omega arith)) ∙ a .loop .inv .1
+    sym (times-end (a .loop .bound) (s .t1) (s .t2) (a .loop .i) (omega arith)) ∙ a .loop .inv
 
 pub times-spec : {M : Type 1} → statement M
 times-spec =

@@ -1,4 +1,5 @@
--- `weight` meets its contract. The invariant: the sum and the weight of the cells left are the weight. Assumes nothing.
+-- `weight` meets its contract. The invariant: the sum and the weight of the cells left are the weight. Assumes
+-- nothing.
 use mathlib.Core.Path.{_≡_}
 use Prim.Native.Nat.{_≤_, _+_, _-_, _*_, _^_}
 use native.Mathlib.Nat.{zero-add}

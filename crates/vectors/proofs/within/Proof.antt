@@ -1,6 +1,6 @@
 -- `within` meets its contract. The invariant: the answer for the cells left is the answer. Assumes nothing.
 use mathlib.Core.Path.{_≡_, refl}
-use Prim.Native.Nat.{_≤_, _-_}
+use Prim.Native.Nat.{_-_}
 use native.Mathlib.Omega.{arith}
 use lib.IntN.{natAbs}
 use lib.ListN.{drop}
@@ -12,13 +12,13 @@ use Rattle.vectors.proofs.within.Statement.{statement}
 use Rattle.vectors.proofs.within.Tie as tie
 
 abbrev Inv-loop : tie.InvT-loop
-Inv-loop limit v i₀ i = (i ≤ cells) × (within limit (drop i v) ≡ within limit v)
+Inv-loop limit v i₀ i = within limit (drop i v) ≡ within limit v
 
 abbrev μ-loop : tie.MeasureT-loop
 μ-loop limit v i₀ i = cells - i
 
 loop-holds : tie.Need-loop-holds Inv-loop μ-loop
-loop-holds c = (omega arith, refl)
+loop-holds c = refl
 
 mul-magnitude : tie.Need-mul-magnitude Inv-loop μ-loop
 mul-magnitude c = omega arith
@@ -41,7 +41,7 @@ returns : tie.Need-returns Inv-loop μ-loop
 returns c =
     let a = c .before .before .before .before in
     let e = cell (c .before) in
-    within-stop (a .before .args .limit) (a .before .args .t2) (a .loop .i) (a .loop .inv .1) (omega arith) (omega arith)
+    within-stop (a .before .args .limit) (a .before .args .t2) (a .loop .i) (a .loop .inv) (omega arith) (omega arith)
 
 add-i : tie.Need-add-i Inv-loop μ-loop
 add-i c = omega arith
@@ -53,10 +53,10 @@ loop-again : tie.Need-loop-again Inv-loop μ-loop
 loop-again c =
     let a = c .before .before .before .before in
     let e = cell (c .before) in
-    (omega arith, within-more (a .before .args .limit) (a .before .args .t2) (a .loop .i) (a .loop .inv .1) (omega arith) (omega arith))
+    within-more (a .before .args .limit) (a .before .args .t2) (a .loop .i) (a .loop .inv) (omega arith) (omega arith)
 
 returns-2 : tie.Need-returns-2 Inv-loop μ-loop
-returns-2 c = within-end _ _ (c .before .loop .i) (c .before .loop .inv .1) (omega arith)
+returns-2 c = within-end _ _ (c .before .loop .i) (c .before .loop .inv) (omega arith)
 
 pub within-spec : {M : Type 1} → statement M
 within-spec =

@@ -1,22 +1,24 @@
 -- `generators_fault` meets its contract. The invariant: what is left of the test is the whole test. Assumes nothing.
-use mathlib.Core.Path.{_≡_, sym, ap, _∙_}
+use mathlib.Core.Path.{_≡_, refl, sym, ap, _∙_}
 use mathlib.Core.Bool.{Bool, not}
 use mathlib.Core.List.{List, []}
-use Prim.Native.Nat.{ℕ, _≤_, _-_, _/_}
+use Prim.Native.Nat.{ℕ, _-_, _/_}
 use native.Mathlib.Nat.{div-le-self}
 use native.Mathlib.Omega.{arith}
 use lib.ListN.{length, getD}
 use Rattle.definitions.specs.Vector.{Vector, isZero}
 use Rattle.definitions.specs.Group.{Exchange}
 use Rattle.definitions.specs.Completion.{remainder}
-use Rattle.definitions.specs.Lent.{chunks, rowsOf, vectorsOf}
-use Rattle.definitions.specs.Refusals.{faultFrom, faultWhere}
+use Rattle.definitions.specs.Lent.{rowsOf, vectorsOf}
+use Rattle.definitions.specs.Refusals.{faultFrom}
 use Rattle.theory.proofs.CheckCall.{vectors-count}
 use Rattle.theory.proofs.Faults.{fault-start}
 use Rattle.vectors.specs.Bounds.{headroom}
+use Rattle.vectors.proofs.Rows.{vectors-within}
 use Rattle.refusals.proofs.Turns.{met-here, met-next, met-end}
-use Rattle.refusals.proofs.Rows.{vectors-within}
-use Rattle.wholeness.proofs.Given.{area-in}
+use Rattle.reduction.specs.Areas.{sequencesIn}
+use Rattle.wholeness.specs.Lists.{generatorsFault}
+use Rattle.wholeness.proofs.Given.{rows-ready}
 use Rattle.wholeness.proofs.generators_fault.Statement.{statement}
 use Rattle.wholeness.proofs.generators_fault.Tie as tie
 
@@ -25,30 +27,30 @@ abbrev remainsAt : (table : List Exchange) (rows generators : List Vector) → �
 remainsAt table rows generators = λ p. not (isZero (remainder table rows (getD generators p [])))
 
 abbrev Inv-loop : tie.InvT-loop
-Inv-loop n generators rows table g marks count stored p₀ p =
-    let vs = vectorsOf n generators in
-    let met = remainsAt (chunks n g table) (vectorsOf n rows) vs in
-    (p ≤ count) × (faultFrom 20 p (length vs - p) met ≡ faultWhere 20 (length vs) met)
+Inv-loop generators rows table shape marks n count stored p₀ p =
+    let vs = vectorsOf (shape .n) generators in
+    let met = remainsAt (sequencesIn shape table) (vectorsOf (shape .n) rows) vs in
+    faultFrom 20 p (length vs - p) met ≡ generatorsFault shape table generators rows
 
 abbrev μ-loop : tie.MeasureT-loop
-μ-loop n generators rows table g marks count stored p₀ p = count - p
+μ-loop generators rows table shape marks n count stored p₀ p = count - p
 
 -- the generators and the test
 module _ (s : tie.Start Inv-loop μ-loop) where
   abbrev table : List Exchange
-  table = chunks (s .args .n) (s .args .g) (s .args .table .now)
+  table = sequencesIn (s .args .shape) (s .args .table .now)
 
   abbrev rows : List Vector
-  rows = vectorsOf (s .args .n) (s .args .rows .now)
+  rows = vectorsOf (s .args .shape .n) (s .args .rows .now)
 
   abbrev vs : List Vector
-  vs = vectorsOf (s .args .n) (s .args .generators .now)
+  vs = vectorsOf (s .args .shape .n) (s .args .generators .now)
 
   abbrev met : ℕ → Bool
   met = remainsAt table rows vs
 
-  counted : length vs ≡ length (s .args .generators .now) / s .args .n
-  counted = vectors-count (s .args .n) (s .args .generators .now)
+  counted : length vs ≡ length (s .args .generators .now) / s .args .shape .n
+  counted = vectors-count (s .args .shape .n) (s .args .generators .now)
 
 div-count : tie.Need-div-count Inv-loop μ-loop
 div-count c = omega (arith, c .before .before .pre .0 .brought .rowsOfTable .positive)
@@ -57,25 +59,20 @@ div-stored : tie.Need-div-stored Inv-loop μ-loop
 div-stored c = omega (arith, c .before .before .pre .0 .brought .rowsOfTable .positive)
 
 loop-holds : tie.Need-loop-holds Inv-loop μ-loop
-loop-holds c = let s = c .before .before in (omega arith, fault-start 20 (length (vs s)) (met s))
+loop-holds c = let s = c .before .before in fault-start 20 (length (vs s)) (met s)
 
 vector-at-requires : tie.Need-vector-at-requires Inv-loop μ-loop
-vector-at-requires c κs = let s = c .before .before .before .before in (s .pre .0 .brought .rowsOfTable .narrow, c .loop-test .taken)
+vector-at-requires c κs =
+    let s = c .before .before .before .before in
+    (s .pre .0 .brought .rowsOfTable .narrow, c .loop-test .taken)
 
 reduce-requires : tie.Need-reduce-requires Inv-loop μ-loop
-unfolding vectorsOf rowsOf
 reduce-requires c κs =
     let a = c .before .before in
     let s = a .before .before .before in
-    let B = s .pre .0 .brought in (
-      B .rowsOfTable,
-      (
-        area-in B,
-        (
-          (s .pre .0 .room, rw (c .vector-at .ensures) (vectors-within headroom (s .args .n) (a .loop .p) (s .args .generators .now) (c .before .loop-test .taken) (s .pre .1))),
-          (s .pre .0 .marked, B .positive),
-        ),
-      ),
+    let limited = vectors-within headroom (s .args .shape .n) (a .loop .p) (s .args .generators .now) in (
+      rows-ready (s .pre .0) _ refl,
+      rw (c .vector-at .ensures) (limited (c .before .loop-test .taken) (s .pre .1)),
     )
 
 is-zero-requires : tie.Need-is-zero-requires Inv-loop μ-loop
@@ -87,17 +84,22 @@ row-test : (c : tie.After-is-zero Inv-loop μ-loop) →
     not (c .is-zero .result) ≡ met (a .before .before .before) (a .loop .p)
 unfolding vectorsOf rowsOf
 row-test c =
-    let s = c .before .before .before .before .before .before .before in
-    ap not (c .is-zero .ensures ∙ ap isZero (c .before .reduce .ensures ∙ ap (remainder (table s) (rows s)) (c .before .before .vector-at .ensures)))
+    let r = c .before in
+    let s = r .before .before .before .before .before .before in
+    let left = r .reduce .ensures ∙ ap (remainder (table s) (rows s)) (r .before .vector-at .ensures) in
+    ap not (c .is-zero .ensures ∙ ap isZero left)
 
 returns : tie.Need-returns Inv-loop μ-loop
 returns c =
     let a = c .before .before .before .before .before in
     let s = a .before .before .before in
-    met-here 20 (length (vs s)) (met s) (a .loop .p) (a .loop .inv .1) (omega (arith, counted s)) (sym (row-test (c .before)) ∙ c .if1 .taken)
+    met-here 20 (length (vs s)) (met s) (a .loop .p) (a .loop .inv) (omega (arith, counted s))
+    (sym (row-test (c .before)) ∙ c .if1 .taken)
 
 add-p : tie.Need-add-p Inv-loop μ-loop
-add-p c = let s = c .before .before .before .before .before .before .before .before in omega (arith, div-le-self (length (s .args .generators .now)) (s .args .n))
+add-p c =
+    let s = c .before .before .before .before .before .before .before .before in
+    omega (arith, div-le-self (length (s .args .generators .now)) (s .args .shape .n))
 
 loop-less : tie.Need-loop-less Inv-loop μ-loop
 loop-less c = omega arith
@@ -106,12 +108,14 @@ loop-again : tie.Need-loop-again Inv-loop μ-loop
 loop-again c =
     let a = c .before .before .before .before .before in
     let s = a .before .before .before in
-    (omega arith, met-next 20 (length (vs s)) (met s) (a .loop .p) (a .loop .inv .1) (omega (arith, counted s)) (sym (row-test (c .before)) ∙ c .if1 .left))
+    met-next 20 (length (vs s)) (met s) (a .loop .p) (a .loop .inv) (omega (arith, counted s))
+    (sym (row-test (c .before)) ∙ c .if1 .left)
 
 returns-2 : tie.Need-returns-2 Inv-loop μ-loop
 returns-2 c =
-    let s = c .before .before .before .before in
-    met-end 20 (length (vs s)) (met s) (c .before .loop .p) (c .before .loop .inv .1) (omega (arith, counted s))
+    let a = c .before in
+    let s = a .before .before .before in
+    met-end 20 (length (vs s)) (met s) (a .loop .p) (a .loop .inv) (omega (arith, counted s))
 
 pub generators-fault-spec : {M : Type 1} → statement M
 generators-fault-spec =

@@ -21,7 +21,9 @@ returns : tie.Need-returns
 returns c = met-first _ _ _ (sym (c .before .before .before .sums-fault .ensures) ∙ c .before .fault .given .1)
 
 returns-2 : tie.Need-returns-2
-returns-2 c = c .others-fault .ensures ∙ unmet-second _ (sym (c .before .before .before .sums-fault .ensures) ∙ c .before .enum-told .given .1)
+returns-2 c =
+    let none = sym (c .before .before .before .sums-fault .ensures) ∙ c .before .enum-told .given .1 in
+    c .others-fault .ensures ∙ unmet-second _ none
 
 pub list-fault-spec : {M : Type 1} → statement M
 list-fault-spec =

@@ -2,74 +2,79 @@
 use mathlib.Core.Path.{_≡_, refl, sym, ap, _∙_}
 use mathlib.Core.Bool.{Bool}
 use mathlib.Core.List.{List}
-use Prim.Native.Nat.{ℕ, _≤_, _-_, _/_}
+use Prim.Native.Nat.{ℕ, _-_, _/_}
 use native.Mathlib.Nat.{div-le-self}
 use native.Mathlib.Omega.{arith}
 use lib.ListN.{length}
 use Rattle.definitions.specs.Vector.{Vector}
 use Rattle.definitions.specs.Group.{Exchange}
 use Rattle.definitions.specs.Completion.{hasOtherBelow}
-use Rattle.definitions.specs.Lent.{chunks, vectorsOf}
-use Rattle.definitions.specs.Refusals.{faultFrom, faultWhere}
+use Rattle.definitions.specs.Lent.{vectorsOf}
+use Rattle.definitions.specs.Refusals.{faultFrom}
 use Rattle.theory.proofs.CheckCall.{vectors-count}
 use Rattle.theory.proofs.Faults.{fault-start}
 use Rattle.refusals.proofs.Turns.{met-here, met-next, met-end}
+use Rattle.reduction.specs.Areas.{sequencesIn}
+use Rattle.wholeness.specs.Lists.{othersFault}
 use Rattle.wholeness.proofs.Given.{area-in, rows-same}
 use Rattle.wholeness.proofs.others_fault.Statement.{statement}
 use Rattle.wholeness.proofs.others_fault.Tie as tie
 
 abbrev Inv-loop : tie.InvT-loop
-Inv-loop n rows table g stored row₀ row =
-    let vs = vectorsOf n rows in
-    let met = hasOtherBelow (chunks n g table) vs in
-    (row ≤ stored) × (faultFrom 22 row (length vs - row) met ≡ faultWhere 22 (length vs) met)
+Inv-loop rows table shape stored row₀ row =
+    let vs = vectorsOf (shape .n) rows in
+    faultFrom 22 row (length vs - row) (hasOtherBelow (sequencesIn shape table) vs) ≡ othersFault shape table rows
 
 abbrev μ-loop : tie.MeasureT-loop
-μ-loop n rows table g stored row₀ row = stored - row
+μ-loop rows table shape stored row₀ row = stored - row
 
 -- the rows and the test
 module _ (s : tie.Start Inv-loop μ-loop) where
   abbrev table : List Exchange
-  table = chunks (s .args .n) (s .args .g) (s .args .table .now)
+  table = sequencesIn (s .args .shape) (s .args .table .now)
 
   abbrev vs : List Vector
-  vs = vectorsOf (s .args .n) (s .args .rows .now)
+  vs = vectorsOf (s .args .shape .n) (s .args .rows .now)
 
   abbrev met : ℕ → Bool
   met = hasOtherBelow table vs
 
-  counted : length vs ≡ length (s .args .rows .now) / s .args .n
-  counted = vectors-count (s .args .n) (s .args .rows .now)
+  counted : length vs ≡ length (s .args .rows .now) / s .args .shape .n
+  counted = vectors-count (s .args .shape .n) (s .args .rows .now)
 
 div-stored : tie.Need-div-stored Inv-loop μ-loop
-div-stored c = omega (arith, c .before .pre .rowsOfTable .positive)
+div-stored c = omega (arith, c .before .before .pre .rowsOfTable .positive)
 
 loop-holds : tie.Need-loop-holds Inv-loop μ-loop
-loop-holds c = let s = c .before in (omega arith, fault-start 22 (length (vs s)) (met s))
+loop-holds c = let s = c .before .before in fault-start 22 (length (vs s)) (met s)
 
 has-other-below-requires : tie.Need-has-other-below-requires Inv-loop μ-loop
 has-other-below-requires c κs =
-    let s = c .before .before .before in
-    let area = area-in (s .pre) in
-    (s .pre .rowsOfTable, (area .holds, area .limited, c .loop-test .taken))
+    let s = c .before .before .before .before in
+    (s .pre .rowsOfTable, (area-in (s .pre), c .loop-test .taken))
 
 -- what the call says of the row
 row-test : (c : tie.After-has-other-below Inv-loop μ-loop) →
     let a = c .before .before in
-    c .has-other-below .result ≡ met (a .before .before) (a .loop .row)
+    c .has-other-below .result ≡ met (a .before .before .before) (a .loop .row)
 row-test c =
     let a = c .before .before in
-    let s = a .before .before in
-    c .has-other-below .ensures ∙ ap (λ (rows : List Vector). hasOtherBelow (table s) rows (a .loop .row)) (rows-same (s .args .n) _ (s .args .rows .now) refl)
+    let s = a .before .before .before in
+    c .has-other-below .ensures
+    ∙ ap (λ (rows : List Vector). hasOtherBelow (table s) rows (a .loop .row))
+    (rows-same (s .args .shape .n) _ (s .args .rows .now) refl)
 
 returns : tie.Need-returns Inv-loop μ-loop
 returns c =
     let a = c .before .before .before in
-    let s = a .before .before in
-    met-here 22 (length (vs s)) (met s) (a .loop .row) (a .loop .inv .1) (omega (arith, counted s)) (sym (row-test (c .before)) ∙ c .if1 .taken)
+    let s = a .before .before .before in
+    met-here 22 (length (vs s)) (met s) (a .loop .row) (a .loop .inv) (omega (arith, counted s))
+    (sym (row-test (c .before)) ∙ c .if1 .taken)
 
 add-row : tie.Need-add-row Inv-loop μ-loop
-add-row c = let s = c .before .before .before .before .before in omega (arith, div-le-self (length (s .args .rows .now)) (s .args .n))
+add-row c =
+    let s = c .before .before .before .before .before .before in
+    omega (arith, div-le-self (length (s .args .rows .now)) (s .args .shape .n))
 
 loop-less : tie.Need-loop-less Inv-loop μ-loop
 loop-less c = omega arith
@@ -77,13 +82,15 @@ loop-less c = omega arith
 loop-again : tie.Need-loop-again Inv-loop μ-loop
 loop-again c =
     let a = c .before .before .before in
-    let s = a .before .before in
-    (omega arith, met-next 22 (length (vs s)) (met s) (a .loop .row) (a .loop .inv .1) (omega (arith, counted s)) (sym (row-test (c .before)) ∙ c .if1 .left))
+    let s = a .before .before .before in
+    met-next 22 (length (vs s)) (met s) (a .loop .row) (a .loop .inv) (omega (arith, counted s))
+    (sym (row-test (c .before)) ∙ c .if1 .left)
 
 returns-2 : tie.Need-returns-2 Inv-loop μ-loop
 returns-2 c =
-    let s = c .before .before .before in
-    met-end 22 (length (vs s)) (met s) (c .before .loop .row) (c .before .loop .inv .1) (omega (arith, counted s))
+    let a = c .before in
+    let s = a .before .before .before in
+    met-end 22 (length (vs s)) (met s) (a .loop .row) (a .loop .inv) (omega (arith, counted s))
 
 pub others-fault-spec : {M : Type 1} → statement M
 others-fault-spec =

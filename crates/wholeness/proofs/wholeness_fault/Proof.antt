@@ -1,11 +1,11 @@
 -- `wholeness_fault` meets its contract: the marks are set, and then the tests follow one another. Assumes nothing.
 use mathlib.Core.Path.{sym, _∙_}
 use native.Mathlib.Omega.{arith}
-use Rattle.theory.proofs.Faults.{met-first, unmet-first}
-use borrow.Author.Needs.{needs}
 use Rattle.definitions.specs.Refusals.{wholenessFault}
+use Rattle.theory.proofs.Faults.{met-first, unmet-first}
 use Rattle.wholeness.specs.Lists.{Ready}
 use Rattle.wholeness.proofs.Given.{marks-room}
+use borrow.Author.Needs.{needs}
 use Rattle.wholeness.proofs.wholeness_fault.Statement.{statement}
 use Rattle.wholeness.proofs.wholeness_fault.Tie as tie
 
@@ -15,13 +15,19 @@ mark-brought-requires c κs = let s = c .before .before .before in (s .pre .0, m
 -- the brought list with its marks
 ready : (c : tie.After-mark-brought) →
     let s = c .before .before .before .before in
-    Ready (s .args .n) (s .args .g) (s .args .table .now) (s .args .rows .now) (c .mark-brought .last .1 .1 .1 .1 .0)
+    Ready (s .args .shape) (s .args .table .now) (s .args .rows .now) (c .mark-brought .last .1 .1 .1 .0)
 ready c =
     let s = c .before .before .before .before in
-    record { brought = s .pre .0; room = omega (arith, marks-room (s .pre .0) (s .pre .1 .1), c .mark-brought .kept .1 .1 .1 .1 .0); marked = c .mark-brought .ensures }
+    record {
+      brought = s .pre .0;
+      room = omega (arith, marks-room (s .pre .0) (s .pre .1 .1), c .mark-brought .kept .1 .1 .1 .0);
+      marked = c .mark-brought .ensures;
+    }
 
 generators-fault-requires : tie.Need-generators-fault-requires
-generators-fault-requires c κs = let m = c .before .before .before in (ready m, m .before .before .before .before .pre .1 .0)
+generators-fault-requires c κs =
+    let m = c .before .before .before in
+    (ready m, m .before .before .before .before .pre .1 .0)
 
 enum-known-fault : tie.Need-enum-known-fault
 enum-known-fault c = search needs
@@ -44,7 +50,9 @@ same-length-2 c = search needs
 
 returns-2 : tie.Need-returns-2
 unfolding wholenessFault
-returns-2 c = c .list-fault .ensures ∙ unmet-first _ (sym (c .before .before .before .before .generators-fault .ensures) ∙ c .before .before .enum-told .given .1)
+returns-2 c =
+    let g = c .before .before .before .before in
+    c .list-fault .ensures ∙ unmet-first _ (sym (g .generators-fault .ensures) ∙ c .before .before .enum-told .given .1)
 
 pub wholeness-fault-spec : {M : Type 1} → statement M
 wholeness-fault-spec =

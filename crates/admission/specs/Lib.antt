@@ -1,0 +1,2 @@
+-- What the tests with which every call begins find.
+pub mod Admission

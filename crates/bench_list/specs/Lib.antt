@@ -1,2 +1,0 @@
--- What the timed call says.
-pub mod Timed

@@ -1,0 +1,48 @@
+-- Specification 7.2: what the tests 17 to 19 find of a brought list, and what they ask of their callers.
+-- Assumes nothing.
+use mathlib.Core.Path.{_≡_}
+use mathlib.Core.Bool.{Bool, true}
+use mathlib.Core.List.{List, []}
+use Prim.Native.Nat.{ℕ, _*_, _/_, _≤_}
+use lib.IntN.{ℤ}
+use lib.ListN.{length, getD}
+use Rattle.definitions.specs.declared.Fault.{Fault}
+use Rattle.definitions.specs.Limits.{entryLimit, generatorLimit}
+use Rattle.definitions.specs.Vector.{Vector, within}
+use Rattle.definitions.specs.Group.{Exchange}
+use Rattle.definitions.specs.Lent.{chunks}
+use Rattle.definitions.specs.Refusals.{faultWhere, isUnfit, isMisplaced, isUncertified}
+
+-- 17: the first row that does not fit
+abbrev pub unfitFault : (table : List Exchange) (rows : List Vector) → Fault
+unfitFault table rows = faultWhere 17 (length rows) (λ r. isUnfit table (getD rows r []))
+
+-- 18: the first row that does not come after the row before it
+abbrev pub misplacedFault : (rows : List Vector) → Fault
+misplacedFault rows = faultWhere 18 (length rows) (isMisplaced rows)
+
+-- 19: row r has no certificate
+abbrev pub uncertifiedAt : (generators rows : List Vector) (coefficients : List ℤ) (r : ℕ) → Bool
+uncertifiedAt generators rows coefficients r =
+    let certificates = chunks (length generators) (length rows) coefficients in
+    isUncertified generators (getD certificates r []) (getD rows r [])
+
+-- 19: the first row without a certificate
+abbrev pub uncertifiedFault : (generators rows : List Vector) (coefficients : List ℤ) → Fault
+uncertifiedFault generators rows coefficients =
+    faultWhere 19 (length rows) (uncertifiedAt generators rows coefficients)
+
+-- the generators of an order: no entry is past its limit, and they are not too many
+pub record Bounded (n : ℕ) (generators : List ℤ) : Type 0 where
+  pub entries : within entryLimit generators ≡ true
+  pub few : length generators / n ≤ generatorLimit
+
+-- the generators, and one coefficient for each
+pub record Certificate (n : ℕ) (generators coefficients : List ℤ) : Type 0 where
+  pub bounded : Bounded n generators
+  pub oneEach : length coefficients ≡ length generators / n
+
+-- the generators, and for each row one coefficient for each
+pub record Certifiable (n : ℕ) (generators rows coefficients : List ℤ) : Type 0 where
+  pub bounded : Bounded n generators
+  pub oneEach : length coefficients ≡ length rows / n * (length generators / n)

@@ -1,0 +1,34 @@
+// The limits of Specification 6, each named once in code.
+
+// 5: the cells of an array; an order has at most so many.
+pub const CELLS: usize = 16;
+
+// 7, 12 and 17: the greatest absolute value of an entry that is sent, stored or brought.
+pub const ENTRY_LIMIT: u32 = 10_000;
+
+// 10: the most members of a group.
+pub const GROUP_LIMIT: usize = 1_152;
+
+// 13: the most list rows in use; 6: the most rows that a Check takes.
+pub const LIST_LIMIT: usize = 128;
+
+// 6: the most generators.
+pub const GENERATOR_LIMIT: usize = 64;
+
+// 6: the most exchanges.
+pub const EXCHANGE_LIMIT: usize = 8;
+
+// 14: the greatest absolute value of an entry of a vector to split.
+pub const SPLIT_LIMIT: u32 = 1_000_000;
+
+// 19: the greatest absolute value of a coefficient.
+pub const COEFFICIENT_LIMIT: i64 = 1_000_000;
+
+// The numbers that a piece takes in the pieces area.
+pub const PIECE_WIDTH: usize = 4;
+
+// The pieces for which programs and C calls lend room.
+pub const LENT_PIECES: usize = 64;
+
+// The first bytes of an order file, to which the answer is the answer to the file.
+pub const ORDER_LIMIT: usize = 65_536;

@@ -1,0 +1,71 @@
+-- How a lent call for C ends (Specification 1.1 and 9.4): its result, and its counts in an area. Assumes nothing.
+use mathlib.Core.Path.{_≡_}
+use mathlib.Core.List.{List, [], _∷_}
+use Prim.Native.Nat.{ℕ, _<_, _^_}
+use lib.Dec.{leb}
+use lib.IntN.{ℤ, pos}
+use lib.ListN.{length, getD}
+use Rattle.definitions.specs.declared.Answer.{Answer}
+use Rattle.definitions.specs.declared.Answer.the-variants.{Moves, Split, Passed, Refused}
+use Rattle.definitions.specs.declared.Fault.the-variants.{At}
+use Rattle.definitions.specs.Lists.{if_then_else_}
+use Rattle.definitions.specs.Lent.{Order, filled}
+use Rattle.definitions.specs.Refusals.{refused}
+use Rattle.definitions.specs.Calls.{ListEnd, SplitEnd, CheckEnd, listCall, listEnd, splitCall, splitEnd}
+use Rattle.definitions.specs.Calls.{checkCall, checkEnd}
+use Rattle.answers.specs.Refusal.{refusalCode, refusalOf}
+
+-- 1.1: the counts of an answer; a refusal has none
+abbrev pub countsOf : Answer → List ℕ
+countsOf (Moves rows members stored sums) = rows ∷ members ∷ stored ∷ sums ∷ []
+countsOf (Split pieces rows members stored sums) = pieces ∷ rows ∷ members ∷ stored ∷ sums ∷ []
+countsOf (Passed rows sums) = rows ∷ sums ∷ []
+countsOf (Refused number place) = []
+
+-- the result of a call: its first count, or its refusal
+abbrev pub resultOf : Answer → ℤ
+resultOf (Moves rows members stored sums) = pos rows
+resultOf (Split pieces rows members stored sums) = pos pieces
+resultOf (Passed rows sums) = pos rows
+resultOf (Refused number place) = refusalOf number place
+
+-- it can be returned as a signed number of 64 bits
+abbrev pub Small : Answer → Type 0
+Small (Moves rows members stored sums) = rows < 2 ^ 63
+Small (Split pieces rows members stored sums) = pieces < 2 ^ 63
+Small (Passed rows sums) = rows < 2 ^ 63
+Small (Refused number place) = refusalCode number place < 2 ^ 63
+
+-- something, if an area of `size` numbers has room for the counts of an answer, else something else
+unfoldable pub ifRoomy : {A : Type 0} → Answer → (size : ℕ) (given short : A) → A
+ifRoomy answer size given short = if leb (length (countsOf answer)) size then given else short
+
+-- the answer with a counts area of `size` numbers: 6 at 0 where it is short, tested last
+abbrev pub counted : Answer → (size : ℕ) → Answer
+counted answer size = ifRoomy answer size answer (Refused 6 0)
+
+-- numbers are given: the first as the result and all in an area, or 6 at 0 and zeros alone where it is short
+pub record Gives (numbers : List ℕ) (size : ℕ) (result : ℤ) (counts : List ℕ) : Type 0 where
+  pub results : result ≡ (if leb (length numbers) size then pos (getD numbers 0 0) else refusalOf 6 0)
+  pub countsHold : counts ≡ filled 0 size (if leb (length numbers) size then numbers else [])
+
+-- the answer is reported: its result, and its counts in an area, with zeros behind them
+pub record Reports (answer : Answer) (size : ℕ) (result : ℤ) (counts : List ℕ) : Type 0 where
+  pub results : result ≡ resultOf (counted answer size)
+  pub countsHold : counts ≡ filled 0 size (countsOf (counted answer size))
+
+-- ---- the three calls: they end as those without counts do, or with 6 at 0 where the counts area is short
+unfoldable pub lentList : Order → (listSize groupSize countsSize : ℕ) → ListEnd
+lentList order listSize groupSize countsSize =
+    let end = listCall order listSize groupSize in
+    ifRoomy (end .answer) countsSize end (listEnd (order .n) listSize groupSize (refused 6 0))
+
+unfoldable pub lentSplit : Order → (vector : List ℤ) (listSize groupSize piecesSize countsSize : ℕ) → SplitEnd
+lentSplit order vector listSize groupSize piecesSize countsSize =
+    let end = splitCall order vector listSize groupSize piecesSize in
+    ifRoomy (end .answer) countsSize end (splitEnd (order .n) listSize groupSize piecesSize (refused 6 0))
+
+unfoldable pub lentCheck : Order → (rows coefficients : List ℤ) (groupSize countsSize : ℕ) → CheckEnd
+lentCheck order rows coefficients groupSize countsSize =
+    let end = checkCall order rows coefficients groupSize in
+    ifRoomy (end .answer) countsSize end (checkEnd groupSize 0 [] (At 6 0))

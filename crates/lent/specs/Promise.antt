@@ -1,0 +1,105 @@
+-- What the lent calls for C promise, for every input (Specification 1.1, 7.4 and 11). The sizes of the areas are their
+-- lengths. Assumes nothing.
+use mathlib.Core.Path.{_≡_}
+use mathlib.Core.Logic.{_↔_}
+use mathlib.Core.List.{List}
+use Prim.Native.Nat.{ℕ, _/_, _≤_}
+use lib.IntN.{ℤ, pos, negsuc}
+use lib.ListN.{length, replicate}
+use Rattle.definitions.specs.declared.Answer.{Answer}
+use Rattle.definitions.specs.declared.Answer.the-variants.{Passed}
+use Rattle.definitions.specs.Vector.{padded}
+use Rattle.definitions.specs.Lattice.{InLattice}
+use Rattle.definitions.specs.Lent.{Order, exchangesOf, filled, generatorsOf, vectorsOf}
+use Rattle.definitions.specs.Calls.{ListEnd, SplitEnd, CheckEnd}
+use Rattle.definitions.specs.Demands.{RulesKept, Whole}
+use Rattle.moves.specs.Promise.{CheckPassed, ListAccepted, ListZero, PastEntries, SplitAccepted, SplitZero}
+use Rattle.answers.specs.Refusal.{refusalOf}
+use Rattle.lent.specs.Ends.{countsOf, lentCheck, lentList, lentSplit, resultOf}
+
+-- an answer was returned, and its counts stand in their area
+pub record Returned (answer : Answer) (result : ℤ) (counts : List ℕ) : Type 0 where
+  pub results : result ≡ resultOf answer
+  pub countsHold : counts ≡ filled 0 (length counts) (countsOf answer)
+
+-- zeros in the counts area
+abbrev pub CountsZero : (counts : List ℕ) → Type 0
+CountsZero counts = counts ≡ replicate (length counts) 0
+
+-- ---- List
+
+-- the end that is due
+abbrev pub listDue : Order → (list : List ℤ) (group counts : List ℕ) → ListEnd
+listDue order list group counts = lentList order (length list) (length group) (length counts)
+
+-- a result that is no refusal: what `ListPromise` says of an accepted list
+pub record ListGiven (order : Order) (result : ℤ) (list : List ℤ) (group counts : List ℕ) : Type 0 where
+  pub answer : Answer
+  pub kept : ListAccepted order answer list group
+  pub returned : Returned answer result counts
+
+-- sukoreta_lent_list: the result and the areas by the definition; and what a reader may conclude from the result
+pub record ListLent (order : Order) (result : ℤ) (list : List ℤ) (group counts : List ℕ) : Type 0 where
+  pub returned : Returned (listDue order list group counts .answer) result counts
+  pub listHolds : list ≡ listDue order list group counts .list
+  pub groupHolds : group ≡ listDue order list group counts .group
+  pub accepted : (k : ℕ) → result ≡ pos k → ListGiven order result list group counts
+  pub refused : (k : ℕ) → result ≡ negsuc k → ListZero list group × CountsZero counts
+
+-- ---- Split
+
+-- the end that is due
+abbrev pub splitDue : Order → (vector list : List ℤ) (group : List ℕ) (pieces : List ℤ) (counts : List ℕ) → SplitEnd
+splitDue order vector list group pieces counts =
+    lentSplit order vector (length list) (length group) (length pieces) (length counts)
+
+-- a result that is no refusal: what `SplitPromise` says of an accepted split
+pub record SplitGiven (order : Order) (vector : List ℤ) (result : ℤ) (list : List ℤ) (group : List ℕ)
+    (pieces : List ℤ) (counts : List ℕ) : Type 0 where
+  pub answer : Answer
+  pub kept : SplitAccepted order vector answer list group pieces
+  pub returned : Returned answer result counts
+
+-- the vector is not in the lattice
+abbrev pub Outside : Order → (vector : List ℤ) → Type 0
+Outside order vector = ¬ (InLattice (generatorsOf order) (padded vector))
+
+-- sukoreta_lent_split: and 15 only outside the lattice, past 14 exactly then
+pub record SplitLent (order : Order) (vector : List ℤ) (result : ℤ) (list : List ℤ) (group : List ℕ)
+    (pieces : List ℤ) (counts : List ℕ) : Type 0 where
+  pub returned : Returned (splitDue order vector list group pieces counts .answer) result counts
+  pub listHolds : list ≡ splitDue order vector list group pieces counts .list
+  pub groupHolds : group ≡ splitDue order vector list group pieces counts .group
+  pub piecesHolds : pieces ≡ splitDue order vector list group pieces counts .pieces
+  pub accepted : (k : ℕ) → result ≡ pos k → SplitGiven order vector result list group pieces counts
+  pub refused : (k : ℕ) → result ≡ negsuc k → SplitZero list group pieces × CountsZero counts
+  pub outside : result ≡ refusalOf 15 0 → Outside order vector
+  pub exactly : PastEntries order vector (length list) (length group) (length pieces)
+      → (result ≡ refusalOf 15 0) ↔ Outside order vector
+
+-- ---- Check
+
+-- the end that is due
+abbrev pub checkDue : Order → (rows coefficients : List ℤ) (group counts : List ℕ) → CheckEnd
+checkDue order rows coefficients group counts = lentCheck order rows coefficients (length group) (length counts)
+
+-- a result that is no refusal: what `CheckPromise` says of a pass
+pub record CheckGiven (order : Order) (rows coefficients : List ℤ) (result : ℤ) (group counts : List ℕ) : Type 0 where
+  pub count : ℕ
+  pub sums : ℕ
+  pub kept : CheckPassed order rows coefficients (length group) group count sums
+  pub returned : Returned (Passed count sums) result counts
+
+-- the rules are kept, the brought list is whole, and there is room for two counts
+pub record MayPass (order : Order) (rows coefficients : List ℤ) (group counts : List ℕ) : Type 0 where
+  pub rules : RulesKept order rows coefficients (length group)
+  pub whole : Whole (order .n) (exchangesOf order) (generatorsOf order) (vectorsOf (order .n) rows)
+  pub roomy : 2 ≤ length counts
+
+-- sukoreta_lent_check: and a number of rows if and only if the list may pass
+pub record CheckLent (order : Order) (rows coefficients : List ℤ) (result : ℤ) (group counts : List ℕ) : Type 0 where
+  pub returned : Returned (checkDue order rows coefficients group counts .answer) result counts
+  pub groupHolds : group ≡ checkDue order rows coefficients group counts .group
+  pub accepted : (k : ℕ) → result ≡ pos k → CheckGiven order rows coefficients result group counts
+  pub passes : (result ≡ pos (length rows / order .n)) ↔ MayPass order rows coefficients group counts
+  pub refused : (k : ℕ) → result ≡ negsuc k → (group ≡ replicate (length group) 0) × CountsZero counts

@@ -1,0 +1,2 @@
+-- What the tests find.
+pub mod Tests

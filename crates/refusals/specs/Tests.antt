@@ -1,0 +1,33 @@
+-- Specification 7.2: what the tests of numbers find, in lent areas. Assumes nothing.
+use mathlib.Core.Bool.{Bool, _&&_}
+use mathlib.Core.List.{List, []}
+use Prim.Native.Nat.{ℕ, _*_, _/_}
+use lib.Dec.{eqb}
+use lib.IntN.{ℤ, pos}
+use lib.ListN.{length, getD}
+use Rattle.definitions.specs.declared.Fault.{Fault}
+use Rattle.definitions.specs.Limits.{listLimit}
+use Rattle.definitions.specs.Vector.{isZero}
+use Rattle.definitions.specs.Lent.{wholeRowsUpTo, rowsOf, vectorsOf}
+use Rattle.definitions.specs.Refusals.{faultWhere, isPast, leavesGenerators}
+
+-- what else a Check lends fits: so many numbers of generators, of brought rows and of coefficients
+abbrev pub broughtSizesFit : (n generators rows coefficients : ℕ) → Bool
+broughtSizesFit n generators rows coefficients =
+    wholeRowsUpTo listLimit n rows && eqb coefficients (rows / n * (generators / n))
+
+-- 7 and 14: the first number past the limit
+abbrev pub pastFault : (number limit : ℕ) (numbers : List ℤ) → Fault
+pastFault number limit numbers = faultWhere number (length numbers) (λ p. isPast limit (getD numbers p (pos 0)))
+
+-- 8: the first generator that is zero
+abbrev pub zeroFault : (n : ℕ) (generators : List ℤ) → Fault
+zeroFault n generators =
+    let rows = vectorsOf n generators in
+    faultWhere 8 (length rows) (λ p. isZero (getD rows p []))
+
+-- 11: the first generator that some sent exchange takes to no generator nor a negative of one
+abbrev pub leavingFault : (n : ℕ) (generators : List ℤ) (exchanges : List ℕ) → Fault
+leavingFault n generators exchanges =
+    let rows = vectorsOf n generators in
+    faultWhere 11 (length rows) (λ p. leavesGenerators rows (rowsOf n exchanges) (getD rows p []))

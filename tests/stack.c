@@ -1,0 +1,159 @@
+// Measures the stack that each call takes, on orders that go through every part of it, and holds it to a bound.
+//
+// A call is made in a thread whose stack was filled before: what is changed afterwards was taken. What the thread takes
+// itself, found by a call that does nothing, is not counted. The last line is 'N passed, M failed'.
+#include <pthread.h>
+#include <stdio.h>
+#include <stdlib.h>
+#include <string.h>
+
+#include "sukoreta.h"
+
+enum { STACK = 1 << 20, BOUND = 400000, FILLED = 0xa5, N = 16, MOVES = 36 };
+
+static uint8_t stack[STACK] __attribute__((aligned(4096)));
+static int32_t generators[MOVES * N], list[128 * N], pieces[256], vector[N], rows[128 * N];
+static uint8_t exchanges[7 * N], group[1152 * N], order[SUKORETA_ORDER_LIMIT], answer[SUKORETA_ANSWER_LIMIT];
+static uint64_t counts[5];
+static int64_t coefficients[128 * MOVES], result;
+static size_t order_length, row_count;
+
+// ---- the moves of the 4 by 4 table, its swaps of neighbouring rows and columns and its transposition
+
+static size_t put_number(size_t at, int64_t x, int bytes) {
+    for (int i = 0; i < bytes; i++) order[at++] = (uint8_t)((uint64_t)x >> 8 * i);
+    return at;
+}
+
+static void make_generators(void) {
+    int32_t *g = generators;
+    for (int a = 0; a < 4; a++)
+        for (int c = a + 1; c < 4; c++)
+            for (int b = 0; b < 4; b++)
+                for (int d = b + 1; d < 4; d++, g += N) {
+                    g[4 * a + b] = g[4 * c + d] = 1;
+                    g[4 * a + d] = g[4 * c + b] = -1;
+                }
+}
+
+static int swapped(int x, int at) { return x == at ? at + 1 : x == at + 1 ? at : x; }
+
+static void make_exchanges(void) {
+    for (int e = 0; e < 7; e++)
+        for (int i = 0; i < 4; i++)
+            for (int j = 0; j < 4; j++) {
+                int a = e < 3 ? swapped(i, e) : e == 6 ? j : i, b = e < 3 ? j : e == 6 ? i : swapped(j, e - 3);
+                exchanges[N * e + 4 * i + j] = (uint8_t)(1 + 4 * a + b);
+            }
+}
+
+// The coefficients of the brought rows: a table with zero sums is its cells outside row 0 and column 0 times the moves
+// of row 0 with their row and column 0 with their column.
+static void make_coefficients(void) {
+    for (size_t r = 0; r < row_count; r++)
+        for (int i = 1; i < 4; i++)
+            for (int j = 1; j < 4; j++) coefficients[MOVES * r + 6 * (i - 1) + j - 1] = rows[N * r + 4 * i + j];
+}
+
+// The order file of a service (0 List, 1 Split, 2 Check).
+static void make_order(int service) {
+    size_t at = put_number(0, 0x01, 1);
+    at = put_number(at, N, 1);
+    for (int g = 0; g < MOVES; g++) {
+        at = put_number(at, 0x02, 1);
+        for (int j = 0; j < N; j++) at = put_number(at, generators[N * g + j], 2);
+    }
+    for (int e = 0; e < 7; e++) {
+        at = put_number(at, 0x03, 1);
+        for (int j = 0; j < N; j++) at = put_number(at, exchanges[N * e + j], 1);
+    }
+    if (service == 1) {
+        at = put_number(at, 0x06, 1);
+        for (int j = 0; j < N; j++) at = put_number(at, vector[j], 4);
+    }
+    for (size_t r = 0; service == 2 && r < row_count; r++) {
+        at = put_number(at, 0x04, 1);
+        for (int j = 0; j < N; j++) at = put_number(at, rows[N * r + j], 2);
+        at = put_number(at, 0x05, 1);
+        for (int g = 0; g < MOVES; g++) at = put_number(at, coefficients[MOVES * r + g], 4);
+    }
+    order_length = put_number(at, 0x00, 1);
+}
+
+// ---- the calls
+
+static void *nothing(void *x) { return x; }
+
+static void *lent_list(void *x) {
+    result = sukoreta_lent_list(N, generators, MOVES * N, exchanges, 7 * N, list, 128 * N, group, 1152 * N, counts, 5);
+    return x;
+}
+
+static void *lent_split(void *x) {
+    result = sukoreta_lent_split(N, generators, MOVES * N, exchanges, 7 * N, vector, N, list, 128 * N, group, 1152 * N,
+                                 pieces, 256, counts, 5);
+    return x;
+}
+
+static void *lent_check(void *x) {
+    result = sukoreta_lent_check(N, generators, MOVES * N, exchanges, 7 * N, rows, row_count * N, coefficients,
+                                 row_count * MOVES, group, 1152 * N, counts, 5);
+    return x;
+}
+
+static void *call_list(void *x) {
+    result = sukoreta_list(order, order_length, answer, sizeof answer);
+    return x;
+}
+
+static void *call_split(void *x) {
+    result = sukoreta_split(order, order_length, answer, sizeof answer);
+    return x;
+}
+
+static void *call_check(void *x) {
+    result = sukoreta_check(order, order_length, answer, sizeof answer);
+    return x;
+}
+
+// The bytes of the stack that a call changes.
+static size_t taken(void *(*call)(void *)) {
+    pthread_attr_t attributes;
+    pthread_t thread;
+    memset(stack, FILLED, STACK);
+    if (pthread_attr_init(&attributes) || pthread_attr_setstack(&attributes, stack, STACK) ||
+        pthread_create(&thread, &attributes, call, NULL) || pthread_join(thread, NULL))
+        exit(1);
+    size_t free = 0;
+    while (free < STACK && stack[free] == FILLED) free++;
+    return STACK - free;
+}
+
+int main(void) {
+    static const struct {
+        const char *name;
+        void *(*call)(void *);
+        int service;
+    } CALLS[] = {{"sukoreta_lent_list", lent_list, 0},   {"sukoreta_lent_split", lent_split, 1},
+                 {"sukoreta_lent_check", lent_check, 2}, {"sukoreta_list", call_list, 0},
+                 {"sukoreta_split", call_split, 1},      {"sukoreta_check", call_check, 2}};
+    int failed = 0;
+    make_generators();
+    make_exchanges();
+    // the vector is a sum of moves, and the brought list is the one that List finds, so that every call is accepted
+    for (int j = 0; j < N; j++) vector[j] = 3 * generators[j] + 2 * generators[7 * N + j];
+    lent_list(NULL);
+    row_count = (size_t)result;
+    memcpy(rows, list, sizeof rows);
+    make_coefficients();
+    size_t own = taken(nothing);
+    for (size_t i = 0; i < sizeof CALLS / sizeof *CALLS; i++) {
+        make_order(CALLS[i].service);
+        size_t most = taken(CALLS[i].call) - own;
+        int bad = most > BOUND || result < 0;
+        printf("%s: %zu bytes of stack, result %lld\n", CALLS[i].name, most, (long long)result);
+        failed += bad;
+    }
+    printf("%d passed, %d failed\n", 6 - failed, failed);
+    return failed > 0;
+}
