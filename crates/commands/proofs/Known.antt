@@ -1,5 +1,5 @@
 -- What stands where a command is due (Specification 8.1). Assumes nothing.
-use mathlib.Core.Path.{_≡_, refl, _∙_, ap}
+use mathlib.Core.Path.{_≡_, refl, sym, _∙_, ap}
 use mathlib.Core.Bool.{Bool, true, false}
 use mathlib.Core.List.{List}
 use Prim.Native.Nat.{ℕ, zero, suc, _+_, _*_, _<_, _≤_}
@@ -11,7 +11,7 @@ use Rattle.definitions.specs.Lists.{if_then_else_}
 use Rattle.commands.specs.declared.Command.{Command}
 use Rattle.commands.specs.declared.Command.the-variants.{Size, Generator, Exchange, Row, Coefficients, Vector, End}
 use Rattle.commands.specs.declared.Reading.the-variants.{Known, Unknown, Past}
-use Rattle.commands.specs.Commands.{kinds, commandOf, commandAt, codeOf, operandsOf, widthOf}
+use Rattle.commands.specs.Commands.{commandOf, commandAt, codeOf, operandsOf, widthOf}
 
 -- no byte is left
 pub past-at : (order : List ℕ) (at : ℕ) → length order ≤ at → commandAt order at ≡ Past
@@ -82,15 +82,22 @@ past-only order at = go (ltb at (length order)) refl
     go true i e = absurd (of-end (getD order at 0) (at + 1) e)
     go false i e = ltb-false at (length order) i
 
--- the bytes of commands are below `kinds`
-pub code-below : (c : Command) → codeOf c < kinds
-code-below (Size p) = omega arith
-code-below (Generator p) = omega arith
-code-below (Exchange p) = omega arith
-code-below (Row p) = omega arith
-code-below (Coefficients p) = omega arith
-code-below (Vector p) = omega arith
-code-below (End p) = omega arith
+-- a command is the one of its byte
+pub of-code : (c : Command) → commandOf (codeOf c) (operandsOf c) ≡ Known c
+unfolding commandOf
+of-code (Size p) = refl
+of-code (Generator p) = refl
+of-code (Exchange p) = refl
+of-code (Row p) = refl
+of-code (Coefficients p) = refl
+of-code (Vector p) = refl
+of-code (End p) = refl
+
+-- so that a byte and the place of the operands tell a command
+pub of-same-code : (c : Command) (code : ℕ) (x : Command) → codeOf c ≡ code → commandOf code (operandsOf c) ≡ Known x → x ≡ c
+of-same-code c code x e made =
+    let same : Known c ≡ Known x = sym (of-code c) ∙ ap (λ (k : ℕ). commandOf k (operandsOf c)) e ∙ made in
+    cc
 
 -- the bytes that operands take at most
 pub width-most : (c : Command) (n m : ℕ) → widthOf c n m ≤ 1 + 4 * (n + m)

@@ -9,9 +9,27 @@ use Rattle.commands.specs.declared.Command.the-variants.{Size, Generator
 use Rattle.commands.specs.declared.Reading.{Reading}
 use Rattle.commands.specs.declared.Reading.the-variants.{Known, Unknown, Past}
 
--- how many kinds of commands there are
-abbrev pub kinds : ℕ
-kinds = 7
+-- the bytes of the commands
+abbrev pub endCode : ℕ
+endCode = 0
+
+abbrev pub sizeCode : ℕ
+sizeCode = 1
+
+abbrev pub generatorCode : ℕ
+generatorCode = 2
+
+abbrev pub exchangeCode : ℕ
+exchangeCode = 3
+
+abbrev pub rowCode : ℕ
+rowCode = 4
+
+abbrev pub coefficientsCode : ℕ
+coefficientsCode = 5
+
+abbrev pub vectorCode : ℕ
+vectorCode = 6
 
 -- the command of a byte whose operands start at p
 unfoldable pub commandOf : (byte p : ℕ) → Reading
@@ -30,13 +48,13 @@ commandAt order at = if ltb at (length order) then commandOf (getD order at 0) (
 
 -- the byte of a command
 abbrev pub codeOf : Command → ℕ
-codeOf (End p) = 0
-codeOf (Size p) = 1
-codeOf (Generator p) = 2
-codeOf (Exchange p) = 3
-codeOf (Row p) = 4
-codeOf (Coefficients p) = 5
-codeOf (Vector p) = 6
+codeOf (End p) = endCode
+codeOf (Size p) = sizeCode
+codeOf (Generator p) = generatorCode
+codeOf (Exchange p) = exchangeCode
+codeOf (Row p) = rowCode
+codeOf (Coefficients p) = coefficientsCode
+codeOf (Vector p) = vectorCode
 
 -- where its operands start
 abbrev pub operandsOf : Command → ℕ
@@ -57,3 +75,7 @@ widthOf (Exchange p) n m = n
 widthOf (Row p) n m = 2 * n
 widthOf (Coefficients p) n m = 4 * m
 widthOf (Vector p) n m = 4 * n
+
+-- where the next command is due: behind its operands
+abbrev pub behind : Command → (n m : ℕ) → ℕ
+behind command n m = operandsOf command + widthOf command n m

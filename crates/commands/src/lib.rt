@@ -3,8 +3,8 @@ ghost use mathlib.Core.Path.{_≡_};
 ghost use Prim.Native.Nat.{_+_, _≤_, _<_, _^_};
 ghost use lib.ListN.{length};
 ghost use Rattle.definitions.specs.Limits.{cells, generatorLimit};
-ghost use Rattle.commands.specs.Commands.{commandAt, codeOf, operandsOf, widthOf};
-ghost use Rattle.commands.specs.Decode.{signedOf, littleAt, shortAt, wordAt};
+ghost use Rattle.commands.specs.Commands.{behind, commandAt, codeOf, operandsOf, widthOf};
+ghost use Rattle.commands.specs.Decode.{byteAt, signedOf, littleAt, shortAt, wordAt};
 
 // A command, with the offset where its operands start.
 pub enum Command {
@@ -23,6 +23,21 @@ pub enum Reading {
     Unknown,
     Past,
 }
+
+// The bytes of the commands.
+pub const END: usize = 0;
+
+pub const SIZE: usize = 1;
+
+pub const GENERATOR: usize = 2;
+
+pub const EXCHANGE: usize = 3;
+
+pub const ROW: usize = 4;
+
+pub const COEFFICIENTS: usize = 5;
+
+pub const VECTOR: usize = 6;
 
 // The command that is due at an offset.
 pub fn command_at(order: &[u8], at: usize) -> Reading
@@ -50,13 +65,13 @@ pub fn code_of(command: Command) -> usize
     ensures code { λ r. ⌜ r ≡ codeOf command ⌝ }
 {
     match command {
-        Command::End(_) => 0,
-        Command::Size(_) => 1,
-        Command::Generator(_) => 2,
-        Command::Exchange(_) => 3,
-        Command::Row(_) => 4,
-        Command::Coefficients(_) => 5,
-        Command::Vector(_) => 6,
+        Command::End(_) => END,
+        Command::Size(_) => SIZE,
+        Command::Generator(_) => GENERATOR,
+        Command::Exchange(_) => EXCHANGE,
+        Command::Row(_) => ROW,
+        Command::Coefficients(_) => COEFFICIENTS,
+        Command::Vector(_) => VECTOR,
     }
 }
 
@@ -89,6 +104,23 @@ pub fn width_of(command: Command, n: usize, m: usize) -> usize
         Command::Coefficients(_) => 4 * m,
         Command::Vector(_) => 4 * n,
     }
+}
+
+// Where the next command is due: behind the operands of a command of the order, with n cells and m generators.
+pub fn behind(order: &[u8], command: Command, n: usize, m: usize) -> usize
+    requires limited { ⌜ (n ≤ cells) × (m ≤ generatorLimit) ⌝ }
+    requires inside { ⌜ operandsOf command ≤ length (now order) ⌝ }
+    ensures next { λ r. ⌜ r ≡ behind command n m ⌝ }
+{
+    operands_of(command) + width_of(command, n, m)
+}
+
+// The number of one byte, in a part of the order.
+pub fn byte_at(part: &[u8], at: usize) -> u8
+    requires room { ⌜ at < length (now part) ⌝ }
+    ensures number { λ r. ⌜ r ≡ byteAt (now (part .entry)) at ⌝ }
+{
+    part[at]
 }
 
 // A byte, as a wide number.

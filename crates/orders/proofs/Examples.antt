@@ -11,8 +11,9 @@ use Rattle.commands.specs.Decode.{signedOf, littleAt}
 use Rattle.orders.specs.declared.Service.{Service}
 use Rattle.orders.specs.declared.Service.the-variants.{List as ListService, Split, Check}
 use Rattle.orders.specs.declared.Counts.{Counts}
-use Rattle.orders.specs.Scan.{grammar, nextPhase, oneIf, countedBy, passed, admitted, stepFrom, stepOf, after, scanFrom, scanOf}
-use Rattle.orders.specs.Operands.{numbersIn, generatorsIn, exchangesIn, rowsIn, coefficientsIn, vectorIn}
+use Rattle.orders.specs.Grammar.{oneIf}
+use Rattle.orders.specs.Scan.{passed, admitted, stepFrom, stepOf, after, scanFrom, scanOf}
+use Rattle.orders.specs.Operands.{commandsFrom, commandsIn, numbersOf, gathered, generatorsIn, exchangesIn, rowsIn, coefficientsIn, vectorIn}
 use Rattle.orders.specs.Examples.{Example, forAny, forList, forSplit, forCheck, splitFile, checkFile}
 use Rattle.orders.proofs.Sizes.{lengthMost}
 
@@ -22,24 +23,24 @@ Hold v lines = map (λ (x : Example). scanOf v (x .file)) lines ≡ map (λ (x :
 
 -- the files for any service
 pub any-service : (v : Service) → Hold v forAny
-unfolding concat commandOf commandAt grammar nextPhase oneIf countedBy passed admitted stepFrom stepOf after scanFrom scanOf forAny
+unfolding concat commandOf commandAt oneIf passed admitted stepFrom stepOf after scanFrom scanOf forAny
 any-service ListService = refl
 any-service Split = refl
 any-service Check = refl
 
 -- those for List
 pub list-files : Hold ListService forList
-unfolding commandOf commandAt grammar nextPhase oneIf countedBy passed admitted stepFrom stepOf after scanFrom scanOf forList
+unfolding commandOf commandAt oneIf passed admitted stepFrom stepOf after scanFrom scanOf forList
 list-files = refl
 
 -- those for Split
 pub split-files : Hold Split forSplit
-unfolding commandOf commandAt grammar nextPhase oneIf countedBy passed admitted stepFrom stepOf after scanFrom scanOf forSplit splitFile
+unfolding commandOf commandAt oneIf passed admitted stepFrom stepOf after scanFrom scanOf forSplit splitFile
 split-files = refl
 
 -- those for Check
 pub check-files : Hold Check forCheck
-unfolding commandOf commandAt grammar nextPhase oneIf countedBy passed admitted stepFrom stepOf after scanFrom scanOf forCheck checkFile
+unfolding commandOf commandAt oneIf passed admitted stepFrom stepOf after scanFrom scanOf forCheck checkFile
 check-files = refl
 
 -- ---- what the accepted files lend
@@ -54,27 +55,27 @@ checkCounts = record { cells = 2; generators = 1; exchanges = 1; rows = 1 }
 
 -- numbers of four bytes, one below zero
 pub split-vector : vectorIn splitFile splitCounts ≡ negsuc 1 ∷ pos 2 ∷ []
-unfolding concat range signedOf littleAt numbersIn vectorIn splitFile
+unfolding range commandOf commandAt signedOf littleAt commandsFrom commandsIn numbersOf gathered vectorIn splitFile
 split-vector = refl
 
 -- numbers of two bytes, one below zero
 pub check-generators : generatorsIn checkFile checkCounts ≡ pos 1 ∷ negsuc 0 ∷ []
-unfolding concat range signedOf littleAt numbersIn generatorsIn checkFile
+unfolding range commandOf commandAt signedOf littleAt commandsFrom commandsIn numbersOf gathered generatorsIn checkFile
 check-generators = refl
 
 -- cells
 pub check-exchanges : exchangesIn checkFile checkCounts ≡ 2 ∷ 1 ∷ []
-unfolding concat range numbersIn exchangesIn checkFile
+unfolding range commandOf commandAt commandsFrom commandsIn numbersOf gathered exchangesIn checkFile
 check-exchanges = refl
 
 -- numbers of two bytes, behind the exchanges
 pub check-rows : rowsIn checkFile checkCounts ≡ pos 1 ∷ negsuc 0 ∷ []
-unfolding concat range signedOf littleAt numbersIn rowsIn checkFile
+unfolding range commandOf commandAt signedOf littleAt commandsFrom commandsIn numbersOf gathered rowsIn checkFile
 check-rows = refl
 
 -- a number of four bytes, behind the row
 pub check-coefficients : coefficientsIn checkFile checkCounts ≡ pos 1 ∷ []
-unfolding concat range signedOf littleAt numbersIn coefficientsIn checkFile
+unfolding range commandOf commandAt signedOf littleAt commandsFrom commandsIn numbersOf gathered coefficientsIn checkFile
 check-coefficients = refl
 
 -- ---- the longest file that is accepted is no longer than the first bytes

@@ -1,112 +1,80 @@
--- The grammar's table (Specification 8.2): where its entries stand, and what it says of a command that may stand. Assumes nothing.
-use mathlib.Core.Path.{_≡_, refl}
-use mathlib.Core.Bool.{Bool, true, false, _&&_, _||_}
-use mathlib.Core.List.{List, [], _∷_, map}
+-- What the grammar (Specification 8.2) says of a command that may stand. Assumes nothing.
+use mathlib.Core.Path.{_≡_, refl, subst}
+use mathlib.Core.Bool.{Bool, true, false, _||_}
 use mathlib.Core.Logic.{_⊎_, inl, inr, ⊎-elim}
-use Prim.Native.Nat.{ℕ, zero, suc, _+_, _*_, _<_}
+use Prim.Native.Nat.{ℕ}
 use native.Mathlib.Omega.{arith}
 use lib.Dec.{eqb}
-use lib.ListN.{length, getD}
 use borrow.Author.Tests.{eqb-true}
-use Rattle.definitions.specs.Lists.{range, every, any}
-use Rattle.theory.proofs.Tests.{and-true-left, and-true-right}
-use Rattle.theory.proofs.Lists.{getD-map, range-mem}
-use Rattle.theory.proofs.Members.{each-member, every-each}
 use Rattle.commands.specs.declared.Command.{Command}
-use Rattle.commands.specs.Commands.{kinds, codeOf}
-use Rattle.commands.proofs.Known.{code-below}
+use Rattle.commands.specs.declared.Command.the-variants.{Size, Generator, Exchange, Row, Coefficients, Vector, End}
+use Rattle.commands.specs.declared.Reading.the-variants.{Known}
+use Rattle.commands.specs.Commands.{endCode, sizeCode, generatorCode, exchangeCode, rowCode, coefficientsCode, vectorCode, codeOf, operandsOf, commandOf}
+use Rattle.commands.proofs.Known.{of-same-code}
 use Rattle.orders.specs.declared.Service.{Service}
 use Rattle.orders.specs.declared.Service.the-variants.{List as ListService, Split, Check}
-use Rattle.orders.specs.Scan.{phases, serviceOf, grammar, nextPhase}
+use Rattle.orders.specs.declared.Phase.{Phase}
+use Rattle.orders.specs.declared.Phase.the-variants.{Empty, Generators, Exchanges, Vectors, Rows, Paired, Done}
+use Rattle.orders.specs.Grammar.{mayClose, mayStand}
 
--- ---- places in the table
+-- among generators or exchanges
+pub data Head : Phase → Type 0 where
+  generators : Head Generators
+  exchanges : Head Exchanges
 
--- how many services there are
-abbrev services : ℕ
-services = 3
-
--- a service is one of them
-pub service-below : (v : Service) → serviceOf v < services
-service-below ListService = omega arith
-service-below Split = omega arith
-service-below Check = omega arith
-
--- the table has an entry for each service, phase and command
-pub place-below : (s p c : ℕ) → s < services → p < phases → c < kinds → kinds * (phases * s + p) + c < length grammar
-unfolding grammar
-place-below s p c hs hp hc = omega arith
-
--- the digits of the code's table
-abbrev pub digits : List ℕ
-digits = map (λ (x : ℕ). 48 + x) grammar
-
--- each is that of an entry
-pub digit-at : (k : ℕ) → k < length grammar → getD digits k 0 ≡ 48 + getD grammar k 0
-digit-at k h = getD-map (λ (x : ℕ). 48 + x) grammar k 0 0 h
-
--- ---- what the table says
-
--- the phase after a command that may stand, by its byte
-abbrev pub afterOf : (code : ℕ) → ℕ
-afterOf code = getD (6 ∷ 1 ∷ 1 ∷ 2 ∷ 4 ∷ 5 ∷ 3 ∷ []) code 0
-
--- the phases in which END may stand, by the service, and those in which the others may
-abbrev pub phasesOf : (service code : ℕ) → List ℕ
-phasesOf service zero = getD ((1 ∷ 2 ∷ []) ∷ (3 ∷ []) ∷ (1 ∷ 2 ∷ 5 ∷ []) ∷ []) service []
-phasesOf service (suc code) = getD ((0 ∷ []) ∷ (1 ∷ []) ∷ (1 ∷ 2 ∷ []) ∷ (1 ∷ 2 ∷ 5 ∷ []) ∷ (4 ∷ []) ∷ (1 ∷ 2 ∷ []) ∷ []) code []
-
--- so much is true of each entry
-rule : (s p c : ℕ) → Bool
-rule s p c =
-    let q = getD grammar (kinds * (phases * s + p) + c) 0 in
-    eqb q 0 || eqb q (afterOf c) && any (eqb p) (phasesOf s c)
-
--- computed, entry by entry
-rules : every (λ s. every (λ p. every (rule s p) (range 0 kinds)) (range 0 phases)) (range 0 services) ≡ true
-unfolding rule grammar every any range
-rules = refl
-
--- what was computed for each of some numbers
-each-below : (test : ℕ → Bool) (count i : ℕ) → every test (range 0 count) ≡ true → i < count → test i ≡ true
-each-below test count i e h = each-member (every-each test (range 0 count) e) (range-mem 0 count i (omega arith) (omega arith))
-
--- p is one of the numbers
-abbrev pub Among : List ℕ → ℕ → Type 0
-Among [] p = ⊥
-Among (x ∷ xs) p = (p ≡ x) ⊎ Among xs p
+-- a command that may stand, and the phase before it
+pub data Stands : Service → Phase → Command → Type 0 where
+  size : {v : Service} (p : ℕ) → Stands v Empty (Size p)
+  generator : {v : Service} (p : ℕ) → Stands v Generators (Generator p)
+  exchange : {v : Service} {h : Phase} (p : ℕ) → Head h → Stands v h (Exchange p)
+  vector : {h : Phase} (p : ℕ) → Head h → Stands Split h (Vector p)
+  row : {h : Phase} (p : ℕ) → Head h → Stands Check h (Row p)
+  further : {v : Service} (p : ℕ) → Stands v Paired (Row p)
+  coefficients : {v : Service} (p : ℕ) → Stands v Rows (Coefficients p)
+  list-end : {h : Phase} (p : ℕ) → Head h → Stands ListService h (End p)
+  split-end : {v : Service} (p : ℕ) → Stands v Vectors (End p)
+  check-end : {h : Phase} (p : ℕ) → Head h → Stands Check h (End p)
+  paired-end : {v : Service} (p : ℕ) → Stands v Paired (End p)
 
 -- one of two tests
 or-cases : (a b : Bool) → (a || b) ≡ true → (a ≡ true) ⊎ (b ≡ true)
 or-cases true b e = inl refl
 or-cases false b e = inr e
 
--- as a test computes it
-among : (xs : List ℕ) (p : ℕ) → any (eqb p) xs ≡ true → Among xs p
-unfolding any
-among [] p e = let z : _≡_ {A = ℕ} 0 1 = cc in absurd (omega arith)
-among (x ∷ xs) p e = ⊎-elim (λ h. inl (eqb-true p x h)) (λ h. inr (among xs p h)) (or-cases (eqb p x) (any (eqb p) xs) e)
+module _ (v : Service) (h : Phase) (c : Command) where
+  -- a command with the byte of another is that one
+  stands-as : (code : ℕ) (x : Command) → eqb (codeOf c) code ≡ true → commandOf code (operandsOf c) ≡ Known x → Stands v h x → Stands v h c
+  stands-as code x e made s = subst (Stands v h) (of-same-code c code x (eqb-true (codeOf c) code e) made) s
 
--- the phase before a command that may stand, and the one after it
-pub record Stands (v : Service) (phase : ℕ) (c : Command) : Type 0 where
-  pub after-it : nextPhase v phase c ≡ afterOf (codeOf c)
-  pub before-it : Among (phasesOf (serviceOf v) (codeOf c)) phase
+-- what closes the generators and exchanges
+closes : (v : Service) {h : Phase} (c : Command) → Head h → mayClose v (codeOf c) ≡ true → Stands v h c
+unfolding commandOf
+closes ListService {h} c k e = stands-as ListService h c endCode (End (operandsOf c)) e refl (list-end (operandsOf c) k)
+closes Split {h} c k e = stands-as Split h c vectorCode (Vector (operandsOf c)) e refl (vector (operandsOf c) k)
+closes Check {h} c k e =
+    ⊎-elim (λ f. stands-as Check h c rowCode (Row (operandsOf c)) f refl (row (operandsOf c) k))
+    (λ f. stands-as Check h c endCode (End (operandsOf c)) f refl (check-end (operandsOf c) k))
+    (or-cases (eqb (codeOf c) rowCode) (eqb (codeOf c) endCode) e)
 
--- a command that the table lets stand
-pub stands : (v : Service) (phase : ℕ) (c : Command) → phase < phases → (nextPhase v phase c ≡ 0 → ⊥) → Stands v phase c
-unfolding nextPhase rule
-stands v phase c h n = go (or-cases (eqb q 0) (eqb q (afterOf (codeOf c)) && any (eqb phase) (phasesOf (serviceOf v) (codeOf c))) entry)
-  where
-    q : ℕ
-    q = nextPhase v phase c
+-- an exchange, or what closes
+head-stands : (v : Service) {h : Phase} (c : Command) → Head h → (eqb (codeOf c) exchangeCode || mayClose v (codeOf c)) ≡ true → Stands v h c
+unfolding commandOf
+head-stands v {h} c k e =
+    ⊎-elim (λ f. stands-as v h c exchangeCode (Exchange (operandsOf c)) f refl (exchange (operandsOf c) k)) (closes v c k)
+    (or-cases (eqb (codeOf c) exchangeCode) (mayClose v (codeOf c)) e)
 
-    entry : rule (serviceOf v) phase (codeOf c) ≡ true
-    entry = each-below (rule (serviceOf v) phase) kinds (codeOf c)
-        (each-below (λ p. every (rule (serviceOf v) p) (range 0 kinds)) phases phase
-        (each-below (λ s. every (λ p. every (rule s p) (range 0 kinds)) (range 0 phases)) services (serviceOf v) rules (service-below v)) h) (code-below c)
-
-    go : (eqb q 0 ≡ true) ⊎ ((eqb q (afterOf (codeOf c)) && any (eqb phase) (phasesOf (serviceOf v) (codeOf c))) ≡ true) → Stands v phase c
-    go (inl e) = absurd (n (eqb-true q 0 e))
-    go (inr e) = record {
-      after-it = eqb-true q (afterOf (codeOf c)) (and-true-left (eqb q (afterOf (codeOf c))) (any (eqb phase) (phasesOf (serviceOf v) (codeOf c))) e);
-      before-it = among (phasesOf (serviceOf v) (codeOf c)) phase (and-true-right (eqb q (afterOf (codeOf c))) (any (eqb phase) (phasesOf (serviceOf v) (codeOf c))) e);
-    }
+-- what the rule says
+pub stands : (v : Service) (h : Phase) (c : Command) → mayStand v h (codeOf c) ≡ true → Stands v h c
+unfolding commandOf
+stands v Empty c e = stands-as v Empty c sizeCode (Size (operandsOf c)) e refl (size (operandsOf c))
+stands v Generators c e =
+    ⊎-elim (λ f. stands-as v Generators c generatorCode (Generator (operandsOf c)) f refl (generator (operandsOf c))) (head-stands v c generators)
+    (or-cases (eqb (codeOf c) generatorCode) (eqb (codeOf c) exchangeCode || mayClose v (codeOf c)) e)
+stands v Exchanges c e = head-stands v c exchanges e
+stands v Vectors c e = stands-as v Vectors c endCode (End (operandsOf c)) e refl (split-end (operandsOf c))
+stands v Rows c e = stands-as v Rows c coefficientsCode (Coefficients (operandsOf c)) e refl (coefficients (operandsOf c))
+stands v Paired c e =
+    ⊎-elim (λ f. stands-as v Paired c rowCode (Row (operandsOf c)) f refl (further (operandsOf c)))
+    (λ f. stands-as v Paired c endCode (End (operandsOf c)) f refl (paired-end (operandsOf c)))
+    (or-cases (eqb (codeOf c) rowCode) (eqb (codeOf c) endCode) e)
+stands v Done c e = absurd (let z : _≡_ {A = ℕ} 0 1 = cc in omega arith)

@@ -2,12 +2,12 @@
 use mathlib.Core.Path.{_≡_, refl, sym, ap, _∙_}
 use mathlib.Core.Bool.{_&&_}
 use mathlib.Core.List.{List}
-use Prim.Native.Nat.{ℕ, zero, suc, _+_, _*_, _≤_, _<_}
+use Prim.Native.Nat.{ℕ, zero, suc, _+_, _≤_, _<_}
 use native.Mathlib.Decide.{decLt}
 use native.Mathlib.Omega.{arith}
 use lib.Dec.{leb}
-use lib.ListN.{length, getD, take}
-use lib.Seq.{take-all, length-take-le, getD-take}
+use lib.ListN.{length, getD, take, drop}
+use lib.Seq.{take-all, length-take-le, getD-take, getD-drop}
 use borrow.Author.Tests.{lt-ltb, le-ltb}
 use Rattle.definitions.specs.Limits.{cells, orderLimit}
 use Rattle.definitions.specs.Lists.{if_then_else_}
@@ -15,7 +15,8 @@ use Rattle.commands.specs.declared.Command.{Command}
 use Rattle.commands.specs.declared.Command.the-variants.{Size, Generator, Exchange, Row, Coefficients, Vector, End}
 use Rattle.commands.specs.declared.Reading.{Reading}
 use Rattle.commands.specs.declared.Reading.the-variants.{Known, Unknown, Past}
-use Rattle.commands.specs.Commands.{commandAt, operandsOf}
+use Rattle.commands.specs.Commands.{codeOf, commandAt, operandsOf}
+use Rattle.commands.specs.Decode.{byteAt}
 use Rattle.commands.proofs.Known.{byte-at, known-at, past-only, width-most}
 use Rattle.orders.specs.declared.Service.{Service}
 use Rattle.orders.specs.declared.Progress.{Progress}
@@ -24,30 +25,11 @@ use Rattle.orders.specs.declared.Scanned.{Scanned}
 use Rattle.orders.specs.declared.Scanned.the-variants.{Counted}
 use Rattle.orders.specs.declared.Step.{Step}
 use Rattle.orders.specs.declared.Step.the-variants.{Next, Stop}
-use Rattle.orders.specs.Scan.{Within, refuse, countedBy, sizedBy, countsOf, passed, admitted, stepFrom, stepOf, after, scanFrom, scanOf, start}
-use Rattle.orders.specs.Operands.{Limited, pairOf}
-use Rattle.orders.proofs.Steps.{Sound, Placed}
-use Rattle.orders.proofs.Scans.{moved, one-more, sound-start, accepted}
-use Rattle.orders.proofs.Sizes.{lengthMost, head-most, rows-most, length-most}
-
--- ---- how far a scan comes
-
--- the counts of a scan that goes on keep the limits, once SIZE is read
-limited : (order : List ℕ) (s : Progress) → Within order s → 1 ≤ s .cells → Limited (countsOf s)
-limited order s w some = record { some = some; cells-ok = w .cells-ok; generators-ok = w .generators-ok; exchanges-ok = w .exchanges-ok; rows-ok = w .rows-ok }
-
--- it is not past the longest order
-far : (order : List ℕ) (s : Progress) (phase : ℕ) → Within order s → Placed order phase s → s .at ≤ lengthMost
-far order s zero w h = omega (arith, h .0)
-far order s (suc zero) w h = omega (arith, h .3, head-most (countsOf s) (limited order s w (h .0 .some)))
-far order s (suc (suc zero)) w h = omega (arith, h .2, head-most (countsOf s) (limited order s w (h .0 .some)))
-far order s (suc (suc (suc zero))) w h = let n = w .cells-ok in omega (arith, h .3, head-most (countsOf s) (limited order s w (h .0 .some)))
-far order s (suc (suc (suc (suc zero)))) w h =
-    let l = limited order s w (h .2 .some) in
-    let r : s .rows * pairOf (countsOf s) ≡ (h .0 + 1) * pairOf (countsOf s) = rw (h .1) in
-    omega (arith, h .3, head-most (countsOf s) l, rows-most (countsOf s) l)
-far order s (suc (suc (suc (suc (suc zero))))) w h = let l = limited order s w (h .0 .some) in omega (arith, h .1, head-most (countsOf s) l, rows-most (countsOf s) l)
-far order s (suc (suc (suc (suc (suc (suc p)))))) w h = absurd h
+use Rattle.orders.specs.Grammar.{mayStand}
+use Rattle.orders.specs.Scan.{Within, refuse, pastBy, sizedBy, passed, admitted, stepFrom, stepOf, after, scanFrom, scanOf, start}
+use Rattle.orders.proofs.Sizes.{lengthMost, far}
+use Rattle.orders.proofs.Steps.{Sound}
+use Rattle.orders.proofs.Scans.{moved, one-more, sound-start, accepted-few}
 
 -- ---- one command
 
@@ -67,7 +49,10 @@ module _ (order : List ℕ) (long : orderLimit < length order) where
   -- a whole command that may stand
   same-passed : (t : Progress) (c : Command) → operandsOf c < orderLimit → passed (take orderLimit order) t c ≡ passed order t c
   unfolding passed
-  same-passed t (Size p) h = ap (λ (n : ℕ). if leb 1 n && leb n cells then Next (sizedBy t n) else refuse 5 0) (getD-take orderLimit order p 0 h)
+  same-passed t (Size p) h =
+      let byte : byteAt (drop p (take orderLimit order)) 0 ≡ byteAt (drop p order) 0 =
+      getD-drop p (take orderLimit order) 0 0 ∙ getD-take orderLimit order (p + 0) 0 (omega arith) ∙ sym (getD-drop p order 0 0) in
+      ap (λ (n : ℕ). if leb 1 n && leb n cells then Next (sizedBy t n) else refuse 5 0) byte
   same-passed t (End p) h =
       let l : p < length (take orderLimit order) = omega (arith, prefix-long) in
       let k : p < length order = omega arith in
@@ -88,19 +73,18 @@ module _ (order : List ℕ) (long : orderLimit < length order) where
       rw (le-ltb (length (take orderLimit order)) (t .at) l, le-ltb (length order) (t .at) m, e)
 
   -- a command as far as a scan comes
-  same-from : (v : Service) (s : Progress) (r : Reading) → Within order s → s .at ≤ lengthMost → commandAt order (s .at) ≡ r → stepFrom v (take orderLimit order) s r ≡ stepFrom v order s r
-  unfolding stepFrom countedBy
+  same-from : (v : Service) (s : Progress) (r : Reading) → Within order s → s .at < lengthMost → commandAt order (s .at) ≡ r → stepFrom v (take orderLimit order) s r ≡ stepFrom v order s r
+  unfolding stepFrom
   same-from v s Past w h e = absurd (omega (arith, past-only order (s .at) e))
   same-from v s Unknown w h e = refl
   same-from v s (Known c) w h e =
       let behind = known-at order (s .at) c e .0 in
-      let width = width-most c (s .cells) (s .generators) in
-      let n = w .cells-ok in
-      let m = w .generators-ok in
-      same-admitted (s .at) (countedBy v s c) c (omega arith) (omega arith)
+      let width = width-most c (s .counts .cells) (s .counts .generators) in
+      let few = w .few in
+      ap (λ (x : Step). if mayStand v (s .phase) (codeOf c) then x else refuse 3 (s .at)) (same-admitted (s .at) (pastBy s c) c (omega arith) (omega arith))
 
   -- one command of the scan
-  same-step : (v : Service) (s : Progress) → Within order s → s .at ≤ lengthMost → stepOf v (take orderLimit order) s ≡ stepOf v order s
+  same-step : (v : Service) (s : Progress) → Within order s → s .at < lengthMost → stepOf v (take orderLimit order) s ≡ stepOf v order s
   unfolding stepOf
   same-step v s w h =
       ap (stepFrom v (take orderLimit order) s) (same-reading (s .at) (omega arith))
@@ -117,10 +101,10 @@ same-after (Stop found) one two h = refl
 -- from any command on
 same-scan : (order : List ℕ) → orderLimit < length order → (v : Service) (f g : ℕ) (s : Progress) → Sound order s → orderLimit < s .at + f → length order < s .at + g
     → scanFrom f v (take orderLimit order) s ≡ scanFrom g v order s
-same-scan order long v zero g s sound h k = absurd (omega (arith, far order s (s .phase) (sound .within) (sound .placed)))
+same-scan order long v zero g s sound h k = absurd (omega (arith, far (s .phase) (s .at) (s .counts) (sound .within .few) (sound .reached)))
 same-scan order long v (suc f) zero s sound h k = absurd (let w = sound .within .inside in omega arith)
 same-scan order long v (suc f) (suc g) s sound h k =
-    one-more v (take orderLimit order) s f (same-step order long v s (sound .within) (far order s (s .phase) (sound .within) (sound .placed)))
+    one-more v (take orderLimit order) s f (same-step order long v s (sound .within) (far (s .phase) (s .at) (s .counts) (sound .within .few) (sound .reached)))
     ∙ same-after (stepOf v order s) (scanFrom f v (take orderLimit order)) (scanFrom g v order)
     (λ t e. let m = moved v order s t sound e in same-scan order long v f g t (m .0) (omega (arith, m .1)) (omega (arith, m .1)))
     ∙ sym (one-more v order s g refl)
@@ -134,10 +118,6 @@ scan-prefix v order =
       | no h ↦ ap (scanOf v) (take-all orderLimit order (omega arith))
     ]
 
--- an accepted order is no longer than those
-pub accepted-short : (v : Service) (order : List ℕ) (c : Counts) → scanOf v order ≡ Counted c → length order ≤ lengthMost
-accepted-short v order c e = let a = accepted v order c e in omega (arith, a .long, length-most c (a .limited) v)
-
--- so that its numbers are those of its first bytes
+-- an accepted order is no longer than those, so that its numbers are those of its first bytes
 pub accepted-whole : (v : Service) (order : List ℕ) (c : Counts) → scanOf v order ≡ Counted c → take orderLimit order ≡ order
-accepted-whole v order c e = take-all orderLimit order (omega (arith, accepted-short v order c e))
+accepted-whole v order c e = take-all orderLimit order (omega (arith, accepted-few v order c e .1))

@@ -3,13 +3,12 @@ use mathlib.Core.Path.{_≡_, refl, sym, ap, subst, _∙_}
 use mathlib.Core.List.{List}
 use Prim.Native.Nat.{ℕ, zero, suc, _+_, _≤_, _<_}
 use native.Mathlib.Omega.{arith}
-use lib.Dec.{eqb}
 use lib.ListN.{length}
-use Rattle.theory.proofs.Counting.{if-cases}
+use Rattle.definitions.specs.Lists.{if_then_else_}
 use Rattle.commands.specs.declared.Command.{Command}
 use Rattle.commands.specs.declared.Command.the-variants.{Size, Generator, Exchange, Row, Coefficients, Vector, End}
 use Rattle.commands.specs.declared.Reading.the-variants.{Known, Unknown, Past}
-use Rattle.commands.specs.Commands.{commandAt, codeOf, operandsOf, widthOf}
+use Rattle.commands.specs.Commands.{codeOf, commandAt, operandsOf, widthOf}
 use Rattle.orders.specs.declared.Service.{Service}
 use Rattle.orders.specs.declared.Progress.{Progress}
 use Rattle.orders.specs.declared.Counts.{Counts}
@@ -17,8 +16,10 @@ use Rattle.orders.specs.declared.Scanned.{Scanned}
 use Rattle.orders.specs.declared.Scanned.the-variants.{Counted, Refused}
 use Rattle.orders.specs.declared.Step.{Step}
 use Rattle.orders.specs.declared.Step.the-variants.{Next, Stop}
-use Rattle.orders.specs.Scan.{refuse, oneIf, countedBy, admitted, stepFrom, stepOf, after, scanFrom, scanOf, start}
-use Rattle.orders.proofs.Steps.{Sound, Accepted, TurnedDown, Answered, Kept, kept}
+use Rattle.orders.specs.Grammar.{mayStand}
+use Rattle.orders.specs.Scan.{Few, refuse, pastBy, admitted, stepFrom, stepOf, after, scanFrom, scanOf, start}
+use Rattle.orders.proofs.Sizes.{lengthMost}
+use Rattle.orders.proofs.Steps.{Sound, TurnedDown, Answered, Kept, kept}
 
 -- ---- the loop
 
@@ -32,8 +33,8 @@ pub record Going (v : Service) (order : List ℕ) (s : Progress) : Type 0 where
 -- nothing is read
 pub sound-start : (order : List ℕ) → Sound order start
 sound-start order = record {
-  within = record { inside = omega arith; phase-ok = omega arith; cells-ok = omega arith; generators-ok = omega arith; exchanges-ok = omega arith; rows-ok = omega arith };
-  placed = (refl, refl, refl, refl);
+  within = record { inside = omega arith; few = record { cells-ok = omega arith; generators-ok = omega arith; exchanges-ok = omega arith; rows-ok = omega arith } };
+  reached = refl;
 }
 
 -- the whole scan is left
@@ -48,8 +49,8 @@ module _ (v : Service) (order : List ℕ) (s : Progress) where
   one-more fuel e = ap (λ (x : Step). after x (scanFrom fuel v order)) e
 
   -- it goes on
-  pub moved : (t : Progress) → Sound order s → stepOf v order s ≡ Next t → Kept v order (s .at) (Next t)
-  moved t sound e = subst (Kept v order (s .at)) e (kept v order s sound)
+  pub moved : (t : Progress) → Sound order s → stepOf v order s ≡ Next t → Kept order (s .at) (Next t)
+  moved t sound e = subst (Kept order (s .at)) e (kept order v s sound)
 
   -- what is then left
   going-fuel : (t : Progress) (fuel : ℕ) → Sound order s → length order < s .at + fuel → stepOf v order s ≡ Next t → scanFrom fuel v order s ≡ scanOf v order → Going v order t
@@ -76,32 +77,32 @@ module _ (v : Service) (order : List ℕ) (s : Progress) where
 -- ---- the answers
 
 -- a command, and what follows it
-answered-after : (v : Service) (order : List ℕ) (at : ℕ) (x : Step) (rest : Progress → Scanned) → Kept v order at x
-    → ((t : Progress) → x ≡ Next t → Answered v order (rest t)) → Answered v order (after x rest)
+answered-after : (order : List ℕ) (at : ℕ) (x : Step) (rest : Progress → Scanned) → Kept order at x
+    → ((t : Progress) → x ≡ Next t → Answered order (rest t)) → Answered order (after x rest)
 unfolding after
-answered-after v order at (Next t) rest k h = h t refl
-answered-after v order at (Stop found) rest k h = k
+answered-after order at (Next t) rest k h = h t refl
+answered-after order at (Stop found) rest k h = k
 
 -- from any command on
-answered-from : (v : Service) (order : List ℕ) (fuel : ℕ) (s : Progress) → Sound order s → length order < s .at + fuel → Answered v order (scanFrom fuel v order s)
+answered-from : (v : Service) (order : List ℕ) (fuel : ℕ) (s : Progress) → Sound order s → length order < s .at + fuel → Answered order (scanFrom fuel v order s)
 unfolding scanFrom
 answered-from v order zero s sound h = absurd (let w = sound .within .inside in omega arith)
 answered-from v order (suc fuel) s sound h =
-    answered-after v order (s .at) (stepOf v order s) (scanFrom fuel v order) (kept v order s sound)
+    answered-after order (s .at) (stepOf v order s) (scanFrom fuel v order) (kept order v s sound)
     (λ t e. let m = moved v order s t sound e in answered-from v order fuel t (m .0) (omega (arith, m .1)))
 
 -- from the first command on
-pub answered : (v : Service) (order : List ℕ) → Answered v order (scanOf v order)
+pub answered : (v : Service) (order : List ℕ) → Answered order (scanOf v order)
 unfolding scanOf
 answered v order = answered-from v order (suc (length order)) start (sound-start order) (omega arith)
 
--- an accepted order keeps the limits, and its counts say how long it is and where its commands stand
-pub accepted : (v : Service) (order : List ℕ) (c : Counts) → scanOf v order ≡ Counted c → Accepted v order c
-accepted v order c e = subst (Answered v order) e (answered v order)
+-- the counts of an accepted order keep the limits, and it is no longer than the longest
+pub accepted-few : (v : Service) (order : List ℕ) (c : Counts) → scanOf v order ≡ Counted c → Few c × (length order ≤ lengthMost)
+accepted-few v order c e = subst (Answered order) e (answered v order)
 
 -- a refusal is one of 1 to 6, and its place lies in the order or at its end
 pub turned-down : (v : Service) (order : List ℕ) (number place : ℕ) → scanOf v order ≡ Refused number place → TurnedDown order number place
-turned-down v order number place e = subst (Answered v order) e (answered v order)
+turned-down v order number place e = subst (Answered order) e (answered v order)
 
 -- ---- one command, by what is read
 
@@ -117,16 +118,9 @@ module _ (v : Service) (order : List ℕ) (s : Progress) where
   step-unknown e = ap (stepFrom v order s) e
 
   -- a command
-  pub step-known : (c : Command) → commandAt order (s .at) ≡ Known c → stepOf v order s ≡ admitted order (s .at) (countedBy v s c) c
+  pub step-known : (c : Command) → commandAt order (s .at) ≡ Known c → stepOf v order s ≡ (if mayStand v (s .phase) (codeOf c) then admitted order (s .at) (pastBy s c) c else refuse 3 (s .at))
   unfolding stepOf stepFrom
   step-known c e = ap (stepFrom v order s) e
-
--- ---- what the code adds up
-
--- a command is counted once
-pub one-most : (c : Command) (code : ℕ) → oneIf c code ≤ 1
-unfolding oneIf
-one-most c code = if-cases (λ (k : ℕ). k ≤ 1) (eqb (codeOf c) code) (λ e. omega arith) (λ e. omega arith)
 
 -- the operands of a command take no less with more cells and generators
 least-width : (c : Command) (n m : ℕ) → widthOf c 0 0 ≤ widthOf c n m
@@ -139,6 +133,5 @@ least-width (Vector p) n m = omega arith
 least-width (End p) n m = omega arith
 
 -- they are skipped
-pub past-operands : (v : Service) (s : Progress) (c : Command) → operandsOf c + widthOf c 0 0 ≤ countedBy v s c .at
-unfolding countedBy
-past-operands v s c = omega (arith, least-width c (s .cells) (s .generators))
+pub past-operands : (s : Progress) (c : Command) → operandsOf c + widthOf c 0 0 ≤ pastBy s c .at
+past-operands s c = omega (arith, least-width c (s .counts .cells) (s .counts .generators))

@@ -1,63 +1,54 @@
--- How many bytes an order within the limits takes (Specification 8.3). Assumes nothing.
-use mathlib.Core.List.{List}
-use Prim.Native.Nat.{ℕ, _+_, _*_, _≤_}
-use native.Mathlib.Nat.{mul-le-mul}
+-- How many bytes the commands of an order within the limits take (Specification 8.3). Assumes nothing.
+use mathlib.Core.Path.{_≡_}
+use Prim.Native.Nat.{ℕ, _+_, _*_, _≤_, _<_}
 use native.Mathlib.Omega.{arith}
-use lib.ListN.{length}
 use Rattle.definitions.specs.Limits.{cells, generatorLimit, exchangeLimit, listLimit}
-use Rattle.theory.proofs.Lists.{row-end}
-use Rattle.orders.specs.declared.Service.{Service}
-use Rattle.orders.specs.declared.Service.the-variants.{List as ListService, Split, Check}
+use Rattle.commands.specs.declared.Command.{Command}
+use Rattle.commands.specs.declared.Command.the-variants.{Size, Generator, Exchange, Row, Coefficients, Vector, End}
+use Rattle.commands.specs.Commands.{behind, widthOf}
+use Rattle.orders.specs.declared.Phase.{Phase}
+use Rattle.orders.specs.declared.Phase.the-variants.{Empty, Generators, Exchanges, Vectors, Rows, Paired, Done}
 use Rattle.orders.specs.declared.Counts.{Counts}
-use Rattle.orders.specs.Operands.{Limited, headOf, pairOf, lengthOf, LieWithin, generatorPlaces, exchangePlaces, rowPlaces, coefficientPlaces, vectorPlaces}
+use Rattle.orders.specs.Scan.{Few}
+use Rattle.orders.proofs.Grammar.{Head, generators, exchanges}
 
--- the most that SIZE, the generators and the exchanges take
-abbrev pub headMost : ℕ
-headMost = 2 + generatorLimit * (1 + 2 * cells) + exchangeLimit * (1 + cells)
+-- the most bytes that a command takes, its own included
+abbrev pub most : Command → ℕ
+most x = 1 + widthOf x cells generatorLimit
 
 -- the most that a row and its coefficients take
-abbrev pub pairMost : ℕ
-pairMost = 1 + 2 * cells + (1 + 4 * generatorLimit)
+abbrev pairMost : ℕ
+pairMost = most (Row 0) + most (Coefficients 0)
+
+-- the most that SIZE, the generators and the exchanges take
+abbrev pub headMost : Counts → ℕ
+headMost c = most (Size 0) + c .generators * most (Generator 0) + c .exchanges * most (Exchange 0)
 
 -- 8.3: the bytes of the longest order that is accepted
 abbrev pub lengthMost : ℕ
-lengthMost = headMost + listLimit * pairMost + 1
+lengthMost = most (Size 0) + generatorLimit * most (Generator 0) + exchangeLimit * most (Exchange 0) + listLimit * pairMost + most (End 0)
 
-module _ (c : Counts) (few : Limited c) where
-  -- each part
-  pub generators-most : c .generators * (1 + 2 * c .cells) ≤ generatorLimit * (1 + 2 * cells)
-  generators-most = mul-le-mul (few .generators-ok) (let h = few .cells-ok in let k : 1 + 2 * c .cells ≤ 1 + 2 * cells = omega arith in k)
+-- how far a scan has come, by the phase; no command is due after END
+abbrev pub Reached : (at : ℕ) → Phase → Counts → Type 0
+Reached at Empty c = at ≡ 0
+Reached at Generators c = at ≤ headMost c
+Reached at Exchanges c = at ≤ headMost c
+Reached at Vectors c = at ≤ headMost c + most (Vector 0)
+Reached at Rows c = at + most (Coefficients 0) ≤ headMost c + c .rows * pairMost
+Reached at Paired c = at ≤ headMost c + c .rows * pairMost
+Reached at Done c = ⊥
 
-  pub exchanges-most : c .exchanges * (1 + c .cells) ≤ exchangeLimit * (1 + cells)
-  exchanges-most = mul-le-mul (few .exchanges-ok) (let h = few .cells-ok in let k : 1 + c .cells ≤ 1 + cells = omega arith in k)
+-- among generators and exchanges
+pub in-head : (at : ℕ) (c : Counts) {h : Phase} → Head h → Reached at h c → at ≤ headMost c
+in-head at c generators r = r
+in-head at c exchanges r = r
 
-  pub rows-most : c .rows * pairOf c ≤ listLimit * pairMost
-  rows-most = mul-le-mul (few .rows-ok) (let h = few .cells-ok in let g = few .generators-ok in let k : pairOf c ≤ pairMost = omega arith in k)
-
-  pub head-most : headOf c ≤ headMost
-  head-most = let g = generators-most in let e = exchanges-most in omega arith
-
-  -- 8.3: no order that is accepted is longer
-  pub length-most : (v : Service) → lengthOf v c ≤ lengthMost
-  length-most ListService = let h = head-most in omega arith
-  length-most Split = let h = head-most in let n = few .cells-ok in omega arith
-  length-most Check = let h = head-most in let r = rows-most in omega arith
-
--- ---- where the operands lie
-
--- those of each kind, in an order that is long enough
-module _ (order : List ℕ) (c : Counts) where
-  pub generators-lie : headOf c ≤ length order → LieWithin order (generatorPlaces c) 2
-  generators-lie h k l = omega (arith, row-end k (c .generators) (1 + 2 * c .cells) l)
-
-  pub exchanges-lie : headOf c ≤ length order → LieWithin order (exchangePlaces c) 1
-  exchanges-lie h k l = omega (arith, row-end k (c .exchanges) (1 + c .cells) l)
-
-  pub rows-lie : headOf c + c .rows * pairOf c ≤ length order → LieWithin order (rowPlaces c) 2
-  rows-lie h k l = omega (arith, row-end k (c .rows) (pairOf c) l)
-
-  pub coefficients-lie : headOf c + c .rows * pairOf c ≤ length order → LieWithin order (coefficientPlaces c) 4
-  coefficients-lie h k l = omega (arith, row-end k (c .rows) (pairOf c) l)
-
-  pub vector-lies : headOf c + (1 + 4 * c .cells) ≤ length order → LieWithin order (vectorPlaces c) 4
-  vector-lies h k l = omega (arith, row-end k 1 (1 + 4 * c .cells) l)
+-- there is room for END behind
+pub far : (h : Phase) (at : ℕ) (c : Counts) → Few c → Reached at h c → at < lengthMost
+far Empty at c few r = omega arith
+far Generators at c few r = omega arith
+far Exchanges at c few r = omega arith
+far Vectors at c few r = omega arith
+far Rows at c few r = omega arith
+far Paired at c few r = omega arith
+far Done at c few r = absurd r

@@ -1,112 +1,100 @@
--- Specification 8.3: the numbers that an accepted order lends. Assumes nothing.
-use mathlib.Core.Path.{_≡_}
-use mathlib.Core.Logic.{_⊎_}
-use mathlib.Core.List.{List, map}
-use Prim.Native.Nat.{ℕ, _+_, _-_, _*_, _^_, _≤_, _<_, _/_, _%_}
+-- Specification 8.1 and 8.3: the commands of an accepted order, and the numbers that it lends. Assumes nothing.
+use mathlib.Core.List.{List, [], _∷_, _++_, map}
+use Prim.Native.Nat.{ℕ, zero, suc, _+_, _*_, _≤_}
 use lib.IntN.{ℤ}
-use lib.ListN.{length, getD}
-use Rattle.definitions.specs.Limits.{cells, generatorLimit, exchangeLimit, listLimit}
-use Rattle.definitions.specs.Lists.{range, concat}
-use Rattle.commands.specs.Decode.{signedOf, littleAt, shortAt, wordAt}
-use Rattle.orders.specs.declared.Service.{Service}
-use Rattle.orders.specs.declared.Service.the-variants.{List as ListService, Split, Check}
+use lib.ListN.{length, drop}
+use lib.Dec.{eqb}
+use Rattle.definitions.specs.Lists.{if_then_else_, range}
+use Rattle.theory.proofs.Members.{Each}
+use Rattle.commands.specs.declared.Command.{Command}
+use Rattle.commands.specs.declared.Reading.{Reading}
+use Rattle.commands.specs.declared.Reading.the-variants.{Known, Unknown, Past}
+use Rattle.commands.specs.Commands.{generatorCode, exchangeCode, rowCode, coefficientsCode, vectorCode}
+use Rattle.commands.specs.Commands.{behind, codeOf, commandAt, operandsOf, widthOf}
+use Rattle.commands.specs.Decode.{byteAt, signedAt}
 use Rattle.orders.specs.declared.Counts.{Counts}
-use Rattle.orders.specs.declared.operands.Places.{Places}
+use Rattle.orders.specs.Grammar.{oneIf}
+use Rattle.orders.specs.Scan.{Few}
+
+-- ---- the commands
+
+-- the command that was read, and those of the rest; none where there is none
+abbrev pub commandsBy : Reading → (rest : Command → List Command) → List Command
+commandsBy (Known command) rest = command ∷ rest command
+commandsBy Unknown rest = []
+commandsBy Past rest = []
+
+-- the commands from an offset on, with n cells and m generators, each with the offset of its operands
+unfoldable pub commandsFrom : (fuel : ℕ) (order : List ℕ) (n m at : ℕ) → List Command
+commandsFrom zero order n m at = []
+commandsFrom (suc fuel) order n m at =
+    commandsBy (commandAt order at) (λ command. commandsFrom fuel order n m (behind command n m))
+
+-- the commands of an order with these counts; each takes a byte, so that the fuel suffices
+unfoldable pub commandsIn : (order : List ℕ) → Counts → List Command
+commandsIn order c = commandsFrom (suc (length order)) order (c .cells) (c .generators) 0
+
+-- the bytes that commands take, their own included
+unfoldable pub bytesOf : (n m : ℕ) → List Command → ℕ
+bytesOf n m [] = 0
+bytesOf n m (command ∷ commands) = 1 + widthOf command n m + bytesOf n m commands
+
+-- how many of the commands have the byte `code`
+unfoldable pub many : (code : ℕ) → List Command → ℕ
+many code [] = 0
+many code (command ∷ commands) = oneIf command code + many code commands
+
+-- the operands of a command lie within the order
+abbrev pub LiesIn : (order : List ℕ) (n m : ℕ) → Command → Type 0
+LiesIn order n m command = behind command n m ≤ length order
 
 -- the limits that the counts of an accepted order keep
 pub record Limited (c : Counts) : Type 0 where
   pub some : 1 ≤ c .cells
-  pub cells-ok : c .cells ≤ cells
-  pub generators-ok : c .generators ≤ generatorLimit
-  pub exchanges-ok : c .exchanges ≤ exchangeLimit
-  pub rows-ok : c .rows ≤ listLimit
+  pub few : Few c
 
--- the bytes of SIZE, the generators and the exchanges
-abbrev pub headOf : Counts → ℕ
-headOf c = 2 + c .generators * (1 + 2 * c .cells) + c .exchanges * (1 + c .cells)
+-- an order whose commands can be read: its counts keep the limits, and no command is cut
+pub record Readable (order : List ℕ) (c : Counts) : Type 0 where
+  pub limited : Limited c
+  pub whole : Each (LiesIn order (c .cells) (c .generators)) (commandsIn order c)
 
--- the bytes of a row and its coefficients
-abbrev pub pairOf : Counts → ℕ
-pairOf c = 1 + 2 * c .cells + (1 + 4 * c .generators)
+-- ---- their numbers
 
--- the bytes of an accepted order, END included
-abbrev pub lengthOf : Service → Counts → ℕ
-lengthOf ListService c = headOf c + 1
-lengthOf Split c = headOf c + (1 + 4 * c .cells) + 1
-lengthOf Check c = headOf c + c .rows * pairOf c + 1
+-- `count` signed numbers of some bytes each, from the start of a part on
+abbrev pub signedNumbers : (bytes count : ℕ) (part : List ℕ) → List ℤ
+signedNumbers bytes count part = map (λ j. signedAt bytes part (bytes * j)) (range 0 count)
 
--- where the operands of the generators stand: SIZE takes two bytes, each GENERATOR one and its numbers
-abbrev pub generatorPlaces : Counts → Places
-generatorPlaces c = record { start = 3; stride = 1 + 2 * c .cells; width = c .cells; count = c .generators }
+-- `count` bytes
+abbrev pub byteNumbers : (count : ℕ) (part : List ℕ) → List ℕ
+byteNumbers count part = map (byteAt part) (range 0 count)
 
--- those of the exchanges: behind the generators
-abbrev pub exchangePlaces : Counts → Places
-exchangePlaces c = record {
-  start = 3 + c .generators * (1 + 2 * c .cells);
-  stride = 1 + c .cells;
-  width = c .cells;
-  count = c .exchanges;
-}
+-- the numbers of a command with the byte `code`; none of another
+unfoldable pub numbersOf : {A : Type 0} (code : ℕ) (decode : List ℕ → List A) (order : List ℕ) → Command → List A
+numbersOf code decode order command =
+    if eqb (codeOf command) code then decode (drop (operandsOf command) order) else []
 
--- those of the rows: behind the exchanges, each followed by its coefficients
-abbrev pub rowPlaces : Counts → Places
-rowPlaces c = record { start = headOf c + 1; stride = pairOf c; width = c .cells; count = c .rows }
+-- the numbers of all commands with the byte `code`, in their sequence
+unfoldable pub gathered : {A : Type 0} (code : ℕ) (decode : List ℕ → List A) (order : List ℕ) → List Command → List A
+gathered code decode order [] = []
+gathered code decode order (command ∷ commands) =
+    numbersOf code decode order command ++ gathered code decode order commands
 
--- those of the coefficients: each behind its row
-abbrev pub coefficientPlaces : Counts → Places
-coefficientPlaces c = record {
-  start = headOf c + 1 + (1 + 2 * c .cells);
-  stride = pairOf c;
-  width = c .generators;
-  count = c .rows;
-}
-
--- those of the vector: behind the exchanges
-abbrev pub vectorPlaces : Counts → Places
-vectorPlaces c = record { start = headOf c + 1; stride = 1 + 4 * c .cells; width = c .cells; count = 1 }
-
--- the bytes that a signed number takes
-abbrev pub SignedSize : (size : ℕ) → Type 0
-SignedSize size = (size ≡ 2) ⊎ (size ≡ 4)
-
--- the signed number of `size` bytes: `shortAt` where they are two, `wordAt` where they are four
-abbrev pub signedAt : (size : ℕ) (part : List ℕ) (at : ℕ) → ℤ
-signedAt size part at = signedOf (2 ^ (8 * size - 1)) (littleAt part at size)
-
--- the operands of all commands of a kind lie within the order, `size` bytes to a number
-abbrev pub LieWithin : (order : List ℕ) → Places → (size : ℕ) → Type 0
-LieWithin order p size = (k : ℕ) → k < p .count → p .start + k * p .stride + size * p .width ≤ length order
-
--- their numbers one behind the other, `size` bytes to a number
-unfoldable pub numbersIn : {A : Type 0} (read : ℕ → A) → Places → (size : ℕ) → List A
-numbersIn read p size =
-    concat
-    (map (λ k. map (λ j. read (p .start + k * p .stride + size * j)) (range 0 (p .width))) (range 0 (p .count)))
-
--- the numbers of the generators, two bytes each
+-- the numbers of the GENERATOR commands, two bytes each
 unfoldable pub generatorsIn : (order : List ℕ) → Counts → List ℤ
-generatorsIn order c = numbersIn (shortAt order) (generatorPlaces c) 2
+generatorsIn order c = gathered generatorCode (signedNumbers 2 (c .cells)) order (commandsIn order c)
 
--- the cells of the exchanges, a byte each
+-- the cells of the EXCHANGE commands, a byte each
 unfoldable pub exchangesIn : (order : List ℕ) → Counts → List ℕ
-exchangesIn order c = numbersIn (λ at. getD order at 0) (exchangePlaces c) 1
+exchangesIn order c = gathered exchangeCode (byteNumbers (c .cells)) order (commandsIn order c)
 
--- the numbers of the rows, two bytes each
+-- the numbers of the ROW commands, two bytes each
 unfoldable pub rowsIn : (order : List ℕ) → Counts → List ℤ
-rowsIn order c = numbersIn (shortAt order) (rowPlaces c) 2
+rowsIn order c = gathered rowCode (signedNumbers 2 (c .cells)) order (commandsIn order c)
 
--- the coefficients, four bytes each
+-- the numbers of the COEFFICIENTS commands, four bytes each
 unfoldable pub coefficientsIn : (order : List ℕ) → Counts → List ℤ
-coefficientsIn order c = numbersIn (wordAt order) (coefficientPlaces c) 4
+coefficientsIn order c = gathered coefficientsCode (signedNumbers 4 (c .generators)) order (commandsIn order c)
 
--- the numbers of the vector, four bytes each
+-- the numbers of the VECTOR command, four bytes each
 unfoldable pub vectorIn : (order : List ℕ) → Counts → List ℤ
-vectorIn order c = numbersIn (wordAt order) (vectorPlaces c) 4
-
--- where the operands of the command that holds number i start
-abbrev pub startOf : Places → (i : ℕ) → ℕ
-startOf p i = p .start + i / p .width * p .stride
-
--- the place of number i of them
-abbrev pub placeOf : Places → (size i : ℕ) → ℕ
-placeOf p size i = startOf p i + size * (i % p .width)
+vectorIn order c = gathered vectorCode (signedNumbers 4 (c .cells)) order (commandsIn order c)

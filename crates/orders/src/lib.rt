@@ -1,16 +1,23 @@
 // The scan of an order file (Specification 8.2 and 8.3).
 ghost use mathlib.Core.Path.{_≡_};
-ghost use Prim.Native.Nat.{_+_, _-_, _≤_, _<_};
+ghost use Prim.Native.Nat.{_+_, _≤_, _<_};
 ghost use lib.ListN.{length};
 ghost use Rattle.commands.specs.Commands.{operandsOf, widthOf};
-ghost use Rattle.orders.specs.Scan.{Within, phases, serviceOf, nextPhase, refuse, oneIf, countedBy, tooMany};
-ghost use Rattle.orders.specs.Scan.{sizedBy, countsOf, passed, admitted, stepOf, scanOf};
+ghost use Rattle.orders.specs.Grammar.{countedBy, mayClose, mayStand, oneIf, phaseAfter, tooMany};
+ghost use Rattle.orders.specs.Scan.{Few, Within, refuse, pastBy, sizedBy, passed, admitted, stepOf, scanOf};
+use commands::COEFFICIENTS;
 use commands::Command;
+use commands::END;
+use commands::EXCHANGE;
+use commands::GENERATOR;
+use commands::ROW;
 use commands::Reading;
+use commands::SIZE;
+use commands::VECTOR;
+use commands::behind;
+use commands::byte_at;
 use commands::code_of;
 use commands::command_at;
-use commands::operands_of;
-use commands::width_of;
 use definitions::limits::CELLS;
 use definitions::limits::EXCHANGE_LIMIT;
 use definitions::limits::GENERATOR_LIMIT;
@@ -26,22 +33,30 @@ pub enum Service {
     Check,
 }
 
-// How far a scan has come: the offset where a command is due, the command before it, and what was counted.
-pub struct Progress {
-    pub at: usize,
-    pub phase: usize,
+// What was read last: nothing, SIZE or GENERATOR, EXCHANGE, VECTOR, ROW, COEFFICIENTS or END.
+enum Phase {
+    Empty,
+    Generators,
+    Exchanges,
+    Vectors,
+    Rows,
+    Paired,
+    Done,
+}
+
+// What an order has: the cells that SIZE gives, and the commands that are counted.
+pub struct Counts {
     pub cells: usize,
     pub generators: usize,
     pub exchanges: usize,
     pub rows: usize,
 }
 
-// What an accepted order has.
-pub struct Counts {
-    pub cells: usize,
-    pub generators: usize,
-    pub exchanges: usize,
-    pub rows: usize,
+// How far a scan has come: the offset where a command is due, the phase, and what was counted.
+struct Progress {
+    at: usize,
+    phase: Phase,
+    counts: Counts,
 }
 
 // The counts of an accepted order, or the number and the place of a refusal.
@@ -51,71 +66,56 @@ pub enum Scanned {
 }
 
 // One command of the scan: the scan goes on, or it is over.
-pub enum Step {
+enum Step {
     Next(Progress),
     Stop(Scanned),
 }
 
-// The phases: the lines of the grammar for a service.
-const PHASES: usize = 7;
-
-// The kinds of commands: its columns.
-const KINDS: usize = 7;
-
-// The grammar (Specification 8.2), a digit for each entry of its table: the phase after a command, or 0.
-const GRAMMAR: [u8; 147] = *b"\
-    0100000\
-    6012000\
-    6002000\
-    0000000\
-    0000000\
-    0000000\
-    0000000\
-    0100000\
-    0012003\
-    0002003\
-    6000000\
-    0000000\
-    0000000\
-    0000000\
-    0100000\
-    6012400\
-    6002400\
-    0000000\
-    0000050\
-    6000400\
-    0000000";
-
-// The number of a service in the grammar.
-fn service_of(service: Service) -> usize
-    ensures number { λ r. ⌜ r ≡ serviceOf service ⌝ }
+// The phase behind a command.
+fn phase_after(command: Command) -> Phase
+    ensures phase { λ r. ⌜ r ≡ phaseAfter command ⌝ }
 {
-    match service {
-        Service::List => 0,
-        Service::Split => 1,
-        Service::Check => 2,
+    match command {
+        Command::Size(_) => Phase::Generators,
+        Command::Generator(_) => Phase::Generators,
+        Command::Exchange(_) => Phase::Exchanges,
+        Command::Vector(_) => Phase::Vectors,
+        Command::Row(_) => Phase::Rows,
+        Command::Coefficients(_) => Phase::Paired,
+        Command::End(_) => Phase::Done,
     }
 }
 
-// A digit as a number.
-fn digit(byte: u8) -> usize
-    requires digit { ⌜ 48 ≤ byte ⌝ }
-    ensures value { λ r. ⌜ r ≡ byte - 48 ⌝ }
+// Whether a command may follow generators and exchanges (Specification 8.2).
+fn may_close(service: Service, code: usize) -> bool
+    ensures rule { λ r. ⌜ r ≡ mayClose service code ⌝ }
 {
-    (byte - b'0') as usize
+    match service {
+        Service::List => code == END,
+        Service::Split => code == VECTOR,
+        Service::Check => (code == ROW) | (code == END),
+    }
 }
 
-// The phase after a command, 0 where it may not stand (Specification 8.2).
-fn next_phase(service: Service, phase: usize, command: Command) -> usize
-    requires phase { ⌜ phase < phases ⌝ }
-    ensures next { λ r. ⌜ r ≡ nextPhase service phase command ⌝ }
+// Whether a command may follow what was read last (Specification 8.2).
+fn may_stand(service: Service, phase: Phase, code: usize) -> bool
+    ensures rule { λ r. ⌜ r ≡ mayStand service phase code ⌝ }
 {
-    digit(GRAMMAR[KINDS * (PHASES * service_of(service) + phase) + code_of(command)])
+    let closes = may_close(service, code);
+    match phase {
+        Phase::Empty => code == SIZE,
+        Phase::Generators => (code == GENERATOR) | ((code == EXCHANGE) | closes),
+        Phase::Exchanges => (code == EXCHANGE) | closes,
+        Phase::Vectors => code == END,
+        Phase::Rows => code == COEFFICIENTS,
+        Phase::Paired => (code == ROW) | (code == END),
+        Phase::Done => false,
+    }
 }
 
 // 1 where a command has the byte `code`, else 0.
 fn one_if(command: Command, code: usize) -> usize
-    ensures one { λ r. ⌜ r ≡ oneIf command code ⌝ }
+    ensures one { λ r. ⌜ (r ≡ oneIf command code) × (r ≤ 1) ⌝ }
 {
     if code_of(command) == code {
         return 1;
@@ -123,32 +123,39 @@ fn one_if(command: Command, code: usize) -> usize
     0
 }
 
-// The progress past a command: its operands are skipped, and it is counted.
-fn counted(order: &[u8], service: Service, s: Progress, command: Command) -> Progress
-    requires within { ⌜ Within (now order) s × (operandsOf command ≤ length (now order)) ⌝ }
-    ensures counted { λ r. ⌜ r ≡ countedBy service s command ⌝ }
+// What is counted with a command.
+fn counted(c: Counts, command: Command) -> Counts
+    requires few { ⌜ Few c ⌝ }
+    ensures counted { λ r. ⌜ r ≡ countedBy c command ⌝ }
 {
-    let p = operands_of(command);
-    let at = p + width_of(command, s.cells, s.generators);
-    let phase = next_phase(service, s.phase, command);
-    let generators = s.generators + one_if(command, 2);
-    let exchanges = s.exchanges + one_if(command, 3);
-    let rows = s.rows + one_if(command, 4);
-    Progress {
-        at,
-        phase,
-        cells: s.cells,
+    let generators = c.generators + one_if(command, GENERATOR);
+    let exchanges = c.exchanges + one_if(command, EXCHANGE);
+    let rows = c.rows + one_if(command, ROW);
+    Counts {
+        cells: c.cells,
         generators,
         exchanges,
         rows,
     }
 }
 
-// Whether there are more generators, exchanges or rows than may be.
-fn too_many(t: Progress) -> bool
-    ensures many { λ r. ⌜ r ≡ tooMany t ⌝ }
+// The progress past a command: its operands are skipped, and it is counted.
+fn past(order: &[u8], s: Progress, command: Command) -> Progress
+    requires within { ⌜ Within (now order) s × (operandsOf command ≤ length (now order)) ⌝ }
+    ensures past { λ r. ⌜ r ≡ pastBy s command ⌝ }
 {
-    (GENERATOR_LIMIT < t.generators) | (EXCHANGE_LIMIT < t.exchanges) | (LIST_LIMIT < t.rows)
+    let c = s.counts;
+    let at = behind(order, command, c.cells, c.generators);
+    let phase = phase_after(command);
+    let counts = counted(c, command);
+    Progress { at, phase, counts }
+}
+
+// Whether there are more generators, exchanges or rows than may be.
+fn too_many(c: Counts) -> bool
+    ensures many { λ r. ⌜ r ≡ tooMany c ⌝ }
+{
+    (GENERATOR_LIMIT < c.generators) | (EXCHANGE_LIMIT < c.exchanges) | (LIST_LIMIT < c.rows)
 }
 
 // The scan is over, with a refusal.
@@ -165,25 +172,18 @@ fn refused(number: u64, place: usize) -> Step
 fn sized(t: Progress, n: usize) -> Progress
     ensures sized { λ r. ⌜ r ≡ sizedBy t n ⌝ }
 {
+    let c = t.counts;
+    let phase = t.phase;
+    let counts = Counts {
+        cells: n,
+        generators: c.generators,
+        exchanges: c.exchanges,
+        rows: c.rows,
+    };
     Progress {
         at: t.at,
-        phase: t.phase,
-        cells: n,
-        generators: t.generators,
-        exchanges: t.exchanges,
-        rows: t.rows,
-    }
-}
-
-// What was counted.
-fn counts_of(t: Progress) -> Counts
-    ensures counts { λ r. ⌜ r ≡ countsOf t ⌝ }
-{
-    Counts {
-        cells: t.cells,
-        generators: t.generators,
-        exchanges: t.exchanges,
-        rows: t.rows,
+        phase,
+        counts,
     }
 }
 
@@ -192,7 +192,8 @@ fn pass_size(order: &[u8], t: Progress, p: usize) -> Step
     requires operand { ⌜ p < length (now order) ⌝ }
     ensures passed { λ r. ⌜ r ≡ passed (now (order .entry)) t (Command.Size p) ⌝ }
 {
-    let n = order[p] as usize;
+    let part = &order[p..];
+    let n = byte_at(part, 0) as usize;
     if (1 <= n) & (n <= CELLS) {
         return Step::Next(sized(t, n));
     }
@@ -206,7 +207,8 @@ fn pass_end(order: &[u8], t: Progress, p: usize) -> Step
     if p < order.len() {
         return refused(4, p);
     }
-    Step::Stop(Scanned::Counted(counts_of(t)))
+    let counts = t.counts;
+    Step::Stop(Scanned::Counted(counts))
 }
 
 // A whole command that may stand, t being the progress past it (Specification 8.3, 6 to 8).
@@ -225,16 +227,13 @@ fn pass(order: &[u8], t: Progress, command: Command) -> Step
     }
 }
 
-// A known command at an offset, t being the progress past it (Specification 8.3, 3 to 8).
+// A command at an offset that may stand, t being the progress past it (Specification 8.3, 4 to 8).
 fn admit(order: &[u8], at: usize, t: Progress, command: Command) -> Step
     requires operands { ⌜ operandsOf command + widthOf command 0 0 ≤ t .at ⌝ }
     ensures admitted { λ r. ⌜ r ≡ admitted (now (order .entry)) at t command ⌝ }
 {
-    let phase = t.phase;
-    if phase == 0 {
-        return refused(3, at);
-    }
-    if too_many(t) {
+    let c = t.counts;
+    if too_many(c) {
         return refused(6, at);
     }
     let end = t.at;
@@ -250,12 +249,16 @@ fn next_step(order: &[u8], service: Service, s: Progress) -> Step
     ensures next { λ r. ⌜ r ≡ stepOf service (now (order .entry)) s ⌝ }
 {
     let at = s.at;
+    let phase = s.phase;
     let reading = command_at(order, at);
     match reading {
         Reading::Past => refused(1, order.len()),
         Reading::Unknown => refused(2, at),
         Reading::Known(command) => {
-            let t = counted(order, service, s, command);
+            if !may_stand(service, phase, code_of(command)) {
+                return refused(3, at);
+            }
+            let t = past(order, s, command);
             admit(order, at, t, command)
         }
     }
@@ -265,13 +268,16 @@ fn next_step(order: &[u8], service: Service, s: Progress) -> Step
 pub fn scan(order: &[u8], service: Service) -> Scanned
     ensures scanned { λ r. ⌜ r ≡ scanOf service (now (order .entry)) ⌝ }
 {
-    let mut s = Progress {
-        at: 0,
-        phase: 0,
+    let counts = Counts {
         cells: 0,
         generators: 0,
         exchanges: 0,
         rows: 0,
+    };
+    let mut s = Progress {
+        at: 0,
+        phase: Phase::Empty,
+        counts,
     };
     loop {
         let next = next_step(order, service, s);

@@ -1,114 +1,34 @@
-// The numbers that an accepted order lends, read into lent areas (Specification 8.3). Each is decoded in the part of
-// the order that starts at its command's operands (Specification 8.1).
+// The numbers that an accepted order lends, read into lent areas by a walk over its commands (Specification 8.3). Those
+// of a command are decoded in the part of the order that starts at its operands (Specification 8.1).
 ghost use mathlib.Core.Path.{_≡_};
-ghost use Prim.Native.Nat.{_+_, _*_, _≤_, _<_};
-ghost use lib.ListN.{length, getD};
-ghost use lib.Seq.{paste};
-ghost use Rattle.commands.specs.Decode.{wordAt};
-ghost use Rattle.orders.specs.Operands.{Limited, LieWithin, headOf, pairOf, startOf, SignedSize, signedAt};
-ghost use Rattle.orders.specs.Operands.{generatorPlaces, exchangePlaces, rowPlaces};
-ghost use Rattle.orders.specs.Operands.{coefficientPlaces, vectorPlaces};
-ghost use Rattle.orders.specs.Operands.{numbersIn, generatorsIn, exchangesIn, rowsIn, coefficientsIn, vectorIn};
+ghost use Prim.Native.Nat.{_+_, _≤_};
+ghost use lib.ListN.{length};
+ghost use Rattle.commands.specs.Commands.{coefficientsCode, exchangeCode};
+ghost use Rattle.commands.specs.Decode.{signedAt};
+ghost use Rattle.orders.specs.Operands.{Readable, commandsIn, byteNumbers, gathered, numbersOf, signedNumbers};
+ghost use Rattle.orders.specs.Operands.{generatorsIn, exchangesIn, rowsIn, coefficientsIn, vectorIn};
+ghost use Rattle.orders.specs.Walk.{Filled, Holds, Inside, SignedSize, Taken, signedIn};
 use crate::Counts;
+use commands::COEFFICIENTS;
+use commands::Command;
+use commands::EXCHANGE;
+use commands::GENERATOR;
+use commands::ROW;
+use commands::Reading;
+use commands::VECTOR;
+use commands::behind;
+use commands::byte_at;
+use commands::code_of;
+use commands::command_at;
+use commands::operands_of;
 use commands::short_at;
 use commands::word_at;
 
-// Where the operands of the commands of one kind stand: those of its first command start at `start`, those of each
-// further command `stride` bytes behind the ones before; `width` numbers to a command, `count` commands.
-pub struct Places {
-    pub start: usize,
-    pub stride: usize,
-    pub width: usize,
-    pub count: usize,
-}
-
-// The bytes of SIZE, the generators and the exchanges.
-fn head_of(c: Counts) -> usize
-    requires limited { ⌜ Limited c ⌝ }
-    ensures head { λ r. ⌜ r ≡ headOf c ⌝ }
-{
-    2 + c.generators * (1 + 2 * c.cells) + c.exchanges * (1 + c.cells)
-}
-
-// The bytes of a row and its coefficients.
-fn pair_of(c: Counts) -> usize
-    requires limited { ⌜ Limited c ⌝ }
-    ensures pair { λ r. ⌜ r ≡ pairOf c ⌝ }
-{
-    1 + 2 * c.cells + (1 + 4 * c.generators)
-}
-
-// Where the numbers of the generators stand, behind SIZE.
-fn generator_places(c: Counts) -> Places
-    requires limited { ⌜ Limited c ⌝ }
-    ensures places { λ r. ⌜ r ≡ generatorPlaces c ⌝ }
-{
-    Places {
-        start: 3,
-        stride: 1 + 2 * c.cells,
-        width: c.cells,
-        count: c.generators,
-    }
-}
-
-// Where the cells of the exchanges stand, behind the generators.
-fn exchange_places(c: Counts) -> Places
-    requires limited { ⌜ Limited c ⌝ }
-    ensures places { λ r. ⌜ r ≡ exchangePlaces c ⌝ }
-{
-    Places {
-        start: 3 + c.generators * (1 + 2 * c.cells),
-        stride: 1 + c.cells,
-        width: c.cells,
-        count: c.exchanges,
-    }
-}
-
-// Where the numbers of the rows stand, behind the exchanges.
-fn row_places(c: Counts) -> Places
-    requires limited { ⌜ Limited c ⌝ }
-    ensures places { λ r. ⌜ r ≡ rowPlaces c ⌝ }
-{
-    Places {
-        start: head_of(c) + 1,
-        stride: pair_of(c),
-        width: c.cells,
-        count: c.rows,
-    }
-}
-
-// Where the coefficients stand, each row's behind the row.
-fn coefficient_places(c: Counts) -> Places
-    requires limited { ⌜ Limited c ⌝ }
-    ensures places { λ r. ⌜ r ≡ coefficientPlaces c ⌝ }
-{
-    Places {
-        start: head_of(c) + 1 + (1 + 2 * c.cells),
-        stride: pair_of(c),
-        width: c.generators,
-        count: c.rows,
-    }
-}
-
-// Where the numbers of the vector stand, behind the exchanges.
-fn vector_places(c: Counts) -> Places
-    requires limited { ⌜ Limited c ⌝ }
-    ensures places { λ r. ⌜ r ≡ vectorPlaces c ⌝ }
-{
-    Places {
-        start: head_of(c) + 1,
-        stride: 1 + 4 * c.cells,
-        width: c.cells,
-        count: 1,
-    }
-}
-
-// Where the operands of the command that holds number i start.
-fn start_of(order: &[u8], p: Places, i: usize) -> usize
-    requires within { ⌜ (0 < p .width) × (startOf p i ≤ length (now order)) ⌝ }
-    ensures start { λ r. ⌜ r ≡ startOf p i ⌝ }
-{
-    p.start + i / p.width * p.stride
+// The commands with a byte, and the signed numbers of each: `count` of them, of `size` bytes each.
+struct Kind {
+    code: usize,
+    size: usize,
+    count: usize,
 }
 
 // The signed number of two or four bytes, in a part of the order.
@@ -122,135 +42,183 @@ fn signed_at(part: &[u8], at: usize, size: usize) -> i32
     word_at(part, at)
 }
 
-// The signed numbers, into an area; their decoder takes the part that starts at the command's operands.
-fn read_numbers(order: &[u8], p: Places, size: usize, area: &mut [i32])
-    requires within { ⌜
-        SignedSize size
-        × LieWithin (now order) p size
-        × (p .count * p .width ≤ length (now area))
+// The numbers of a command of a kind, into an area behind those that are filled; how many are filled then.
+fn take_numbers(
+    order: &[u8],
+    command: Command,
+    kind: Kind,
+    filled: usize,
+    area: &mut [i32],
+) -> usize
+    requires size { ⌜ SignedSize (kind .size) ⌝ }
+    requires inside { ⌜ Inside (now order) (kind .code) (kind .size) (kind .count) command ⌝ }
+    requires room { ⌜
+        filled + length (numbersOf (kind .code) (signedIn kind) (now order) command) ≤ length (now area)
         ⌝ }
-    ensures read { λ _. ⌜
-        (let numbers = numbersIn (signedAt size (now (order .entry))) p size in
-        now (area .exit) ≡ paste (now (area .entry)) 0 numbers (p .count * p .width))
+    ensures taken { λ r. ⌜
+        (let numbers = numbersOf (kind .code) (signedIn kind) (now (order .entry)) command in
+        Taken numbers filled (now (area .entry)) (now (area .exit)) r)
         ⌝ }
 {
-    let total = p.count * p.width;
-    let mut i = 0;
-    while i < total {
-        let from = start_of(order, p, i);
-        let part = &order[from..];
-        area[i] = signed_at(part, size * (i % p.width), size);
-        i += 1;
+    if code_of(command) != kind.code {
+        return filled;
+    }
+    let from = operands_of(command);
+    let part = &order[from..];
+    let mut j = 0;
+    while j < kind.count {
+        area[filled + j] = signed_at(part, kind.size * j, kind.size);
+        j += 1;
+    }
+    filled + kind.count
+}
+
+// The cells of an EXCHANGE, likewise.
+fn take_bytes(order: &[u8], command: Command, count: usize, filled: usize, area: &mut [u8]) -> usize
+    requires inside { ⌜ Inside (now order) exchangeCode 1 count command ⌝ }
+    requires room { ⌜
+        filled + length (numbersOf exchangeCode (byteNumbers count) (now order) command) ≤ length (now area)
+        ⌝ }
+    ensures taken { λ r. ⌜
+        (let numbers = numbersOf exchangeCode (byteNumbers count) (now (order .entry)) command in
+        Taken numbers filled (now (area .entry)) (now (area .exit)) r)
+        ⌝ }
+{
+    if code_of(command) != EXCHANGE {
+        return filled;
+    }
+    let from = operands_of(command);
+    let part = &order[from..];
+    let mut j = 0;
+    while j < count {
+        area[filled + j] = byte_at(part, j);
+        j += 1;
+    }
+    filled + count
+}
+
+// The numbers of COEFFICIENTS, likewise, into an area of wide numbers.
+fn take_wide(order: &[u8], command: Command, count: usize, filled: usize, area: &mut [i64]) -> usize
+    requires inside { ⌜ Inside (now order) coefficientsCode 4 count command ⌝ }
+    requires room { ⌜
+        filled + length (numbersOf coefficientsCode (signedNumbers 4 count) (now order) command) ≤ length (now area)
+        ⌝ }
+    ensures taken { λ r. ⌜
+        (let numbers = numbersOf coefficientsCode (signedNumbers 4 count) (now (order .entry)) command in
+        Taken numbers filled (now (area .entry)) (now (area .exit)) r)
+        ⌝ }
+{
+    if code_of(command) != COEFFICIENTS {
+        return filled;
+    }
+    let from = operands_of(command);
+    let part = &order[from..];
+    let mut j = 0;
+    while j < count {
+        area[filled + j] = word_at(part, 4 * j) as i64;
+        j += 1;
+    }
+    filled + count
+}
+
+// The numbers of all commands of a kind, into an area.
+fn read_numbers(order: &[u8], c: Counts, kind: Kind, area: &mut [i32])
+    requires readable { ⌜ Readable (now order) c ⌝ }
+    requires kind { ⌜ SignedSize (kind .size) × Holds (kind .code) (kind .size) (kind .count) c ⌝ }
+    requires room { ⌜
+        length (gathered (kind .code) (signedIn kind) (now order) (commandsIn (now order) c)) ≤ length (now area)
+        ⌝ }
+    ensures read { λ _. ⌜
+        (let order = now (order .entry) in
+        Filled (gathered (kind .code) (signedIn kind) order (commandsIn order c)) (now (area .entry)) (now (area .exit)))
+        ⌝ }
+{
+    let mut at = 0;
+    let mut filled = 0;
+    loop {
+        let reading = command_at(order, at);
+        let Reading::Known(command) = reading else {
+            return;
+        };
+        filled = take_numbers(order, command, kind, filled, &mut *area);
+        at = behind(order, command, c.cells, c.generators);
     }
 }
 
-// The bytes, into an area, each read in the part that starts at the command's operands.
-fn read_bytes(order: &[u8], p: Places, area: &mut [u8])
-    requires within { ⌜ LieWithin (now order) p 1 × (p .count * p .width ≤ length (now area)) ⌝ }
-    ensures read { λ _. ⌜
-        (let numbers = numbersIn (λ at. getD (now (order .entry)) at 0) p 1 in
-        now (area .exit) ≡ paste (now (area .entry)) 0 numbers (p .count * p .width))
-        ⌝ }
+// The cells of the exchanges, into an area.
+pub fn read_exchanges(order: &[u8], c: Counts, area: &mut [u8])
+    requires readable { ⌜ Readable (now order) c ⌝ }
+    requires room { ⌜ length (exchangesIn (now order) c) ≤ length (now area) ⌝ }
+    ensures read { λ _. ⌜ Filled (exchangesIn (now (order .entry)) c) (now (area .entry)) (now (area .exit)) ⌝ }
 {
-    let total = p.count * p.width;
-    let mut i = 0;
-    while i < total {
-        let from = start_of(order, p, i);
-        let part = &order[from..];
-        area[i] = part[i % p.width];
-        i += 1;
+    let mut at = 0;
+    let mut filled = 0;
+    loop {
+        let reading = command_at(order, at);
+        let Reading::Known(command) = reading else {
+            return;
+        };
+        filled = take_bytes(order, command, c.cells, filled, &mut *area);
+        at = behind(order, command, c.cells, c.generators);
     }
 }
 
-// The numbers of four bytes, read likewise, into an area of wide numbers.
-fn read_wide_words(order: &[u8], p: Places, area: &mut [i64])
-    requires within { ⌜ LieWithin (now order) p 4 × (p .count * p .width ≤ length (now area)) ⌝ }
-    ensures read { λ _. ⌜
-        (let numbers = numbersIn (wordAt (now (order .entry))) p 4 in
-        now (area .exit) ≡ paste (now (area .entry)) 0 numbers (p .count * p .width))
-        ⌝ }
+// The coefficients of the rows, into an area.
+pub fn read_coefficients(order: &[u8], c: Counts, area: &mut [i64])
+    requires readable { ⌜ Readable (now order) c ⌝ }
+    requires room { ⌜ length (coefficientsIn (now order) c) ≤ length (now area) ⌝ }
+    ensures read { λ _. ⌜ Filled (coefficientsIn (now (order .entry)) c) (now (area .entry)) (now (area .exit)) ⌝ }
 {
-    let total = p.count * p.width;
-    let mut i = 0;
-    while i < total {
-        let from = start_of(order, p, i);
-        let part = &order[from..];
-        area[i] = word_at(part, 4 * (i % p.width)) as i64;
-        i += 1;
+    let mut at = 0;
+    let mut filled = 0;
+    loop {
+        let reading = command_at(order, at);
+        let Reading::Known(command) = reading else {
+            return;
+        };
+        filled = take_wide(order, command, c.generators, filled, &mut *area);
+        at = behind(order, command, c.cells, c.generators);
     }
 }
 
 // The numbers of the generators, into an area.
 pub fn read_generators(order: &[u8], c: Counts, area: &mut [i32])
-    requires within { ⌜
-        Limited c
-        × (headOf c ≤ length (now order))
-        × (c .generators * c .cells ≤ length (now area))
-        ⌝ }
-    ensures read { λ _. ⌜
-        (let numbers = generatorsIn (now (order .entry)) c in
-        now (area .exit) ≡ paste (now (area .entry)) 0 numbers (c .generators * c .cells))
-        ⌝ }
+    requires readable { ⌜ Readable (now order) c ⌝ }
+    requires room { ⌜ length (generatorsIn (now order) c) ≤ length (now area) ⌝ }
+    ensures read { λ _. ⌜ Filled (generatorsIn (now (order .entry)) c) (now (area .entry)) (now (area .exit)) ⌝ }
 {
-    read_numbers(order, generator_places(c), 2, area);
-}
-
-// The cells of the exchanges, into an area.
-pub fn read_exchanges(order: &[u8], c: Counts, area: &mut [u8])
-    requires within { ⌜
-        Limited c
-        × (headOf c ≤ length (now order))
-        × (c .exchanges * c .cells ≤ length (now area))
-        ⌝ }
-    ensures read { λ _. ⌜
-        (let numbers = exchangesIn (now (order .entry)) c in
-        now (area .exit) ≡ paste (now (area .entry)) 0 numbers (c .exchanges * c .cells))
-        ⌝ }
-{
-    read_bytes(order, exchange_places(c), area);
+    let kind = Kind {
+        code: GENERATOR,
+        size: 2,
+        count: c.cells,
+    };
+    read_numbers(order, c, kind, area);
 }
 
 // The numbers of the rows, into an area.
 pub fn read_rows(order: &[u8], c: Counts, area: &mut [i32])
-    requires within { ⌜
-        Limited c
-        × (headOf c + c .rows * pairOf c ≤ length (now order))
-        × (c .rows * c .cells ≤ length (now area))
-        ⌝ }
-    ensures read { λ _. ⌜
-        (let numbers = rowsIn (now (order .entry)) c in
-        now (area .exit) ≡ paste (now (area .entry)) 0 numbers (c .rows * c .cells))
-        ⌝ }
+    requires readable { ⌜ Readable (now order) c ⌝ }
+    requires room { ⌜ length (rowsIn (now order) c) ≤ length (now area) ⌝ }
+    ensures read { λ _. ⌜ Filled (rowsIn (now (order .entry)) c) (now (area .entry)) (now (area .exit)) ⌝ }
 {
-    read_numbers(order, row_places(c), 2, area);
-}
-
-// The coefficients of the rows, into an area.
-pub fn read_coefficients(order: &[u8], c: Counts, area: &mut [i64])
-    requires within { ⌜
-        Limited c
-        × (headOf c + c .rows * pairOf c ≤ length (now order))
-        × (c .rows * c .generators ≤ length (now area))
-        ⌝ }
-    ensures read { λ _. ⌜
-        (let numbers = coefficientsIn (now (order .entry)) c in
-        now (area .exit) ≡ paste (now (area .entry)) 0 numbers (c .rows * c .generators))
-        ⌝ }
-{
-    read_wide_words(order, coefficient_places(c), area);
+    let kind = Kind {
+        code: ROW,
+        size: 2,
+        count: c.cells,
+    };
+    read_numbers(order, c, kind, area);
 }
 
 // The numbers of the vector, into an area.
 pub fn read_vector(order: &[u8], c: Counts, area: &mut [i32])
-    requires within { ⌜
-        Limited c
-        × (headOf c + (1 + 4 * c .cells) ≤ length (now order))
-        × (c .cells ≤ length (now area))
-        ⌝ }
-    ensures read { λ _. ⌜
-        (let numbers = vectorIn (now (order .entry)) c in
-        now (area .exit) ≡ paste (now (area .entry)) 0 numbers (c .cells))
-        ⌝ }
+    requires readable { ⌜ Readable (now order) c ⌝ }
+    requires room { ⌜ length (vectorIn (now order) c) ≤ length (now area) ⌝ }
+    ensures read { λ _. ⌜ Filled (vectorIn (now (order .entry)) c) (now (area .entry)) (now (area .exit)) ⌝ }
 {
-    read_numbers(order, vector_places(c), 4, area);
+    let kind = Kind {
+        code: VECTOR,
+        size: 4,
+        count: c.cells,
+    };
+    read_numbers(order, c, kind, area);
 }

@@ -25,7 +25,7 @@ use Rattle.orders.specs.declared.Service.{Service}
 use Rattle.orders.specs.declared.Service.the-variants.{List as ListService, Split as SplitService}
 use Rattle.orders.specs.declared.Service.the-variants.{Check as CheckService}
 use Rattle.orders.specs.Operands.{coefficientsIn, rowsIn, vectorIn}
-use Rattle.orders.proofs.Scans.{accepted}
+use Rattle.orders.proofs.Commands.{accepted}
 use Rattle.answers.specs.Answers.{answerText}
 use Rattle.answers.specs.Lengths.{LinesWithin, WithinLimits, textLimit}
 use Rattle.answers.proofs.Longest.{text-short}
@@ -77,7 +77,7 @@ module _ (file : List ℕ) where
       let c = F .counts in
       let C = listing-counts (orderIn file c) (listSize c) (groupSize c) (F .found) (F .listed) in
       let K = list-kept (orderIn file c) (listSize c) (groupSize c) (F .found) (F .listed) in
-      let L = accepted ListService file c (F .scanned) .limited in
+      let L = accepted ListService file c (F .scanned) .readable .limited .few in
       short-of ListService (F .answers) (F .lines) (
         omega (arith, C .rows, length-map (F .found .rows) (take (c .cells))),
         C .table,
@@ -100,7 +100,7 @@ module _ (file : List ℕ) where
   passed-short F =
       let c = F .counts in
       let C = check-counts (orderIn file c) (rowsIn file c) (coefficientsIn file c) (groupSize c) (F .passes) in
-      let L = accepted CheckService file c (F .scanned) .limited in
+      let L = accepted CheckService file c (F .scanned) .readable .limited .few in
       short-of CheckService (F .answers) refl
       (omega (arith, L .rows-ok), omega (arith, sums-few (C .table) (L .rows-ok)))
 

@@ -26,9 +26,10 @@ use Rattle.definitions.specs.Calls.{rulesFault, checkFault, checkEnd, checkCall
 use Rattle.commands.specs.Commands.{commandOf, commandAt}
 use Rattle.commands.specs.Decode.{signedOf, littleAt}
 use Rattle.orders.specs.declared.Service.the-variants.{List as ListService, Split as SplitService}
-use Rattle.orders.specs.Scan.{grammar, nextPhase, oneIf, countedBy, passed, admitted, stepFrom, stepOf, after}
+use Rattle.orders.specs.Grammar.{oneIf}
+use Rattle.orders.specs.Scan.{passed, admitted, stepFrom, stepOf, after}
 use Rattle.orders.specs.Scan.{scanFrom, scanOf}
-use Rattle.orders.specs.Operands.{numbersIn, generatorsIn, exchangesIn, vectorIn}
+use Rattle.orders.specs.Operands.{commandsFrom, commandsIn, numbersOf as commandNumbers, gathered, generatorsIn, exchangesIn, vectorIn}
 use Rattle.answers.specs.Text.{digits, decimal}
 use Rattle.answers.specs.Answers.{numbersText, lineText, linesText, headText, tableText, movesText, splitText}
 use Rattle.answers.specs.Answers.{refusedText, answerText}
@@ -39,5 +40,5 @@ pub examples-hold :
     (printed ListService p4File ≡ p4Text)
     × (printed SplitService p7File ≡ p7Text)
     × (printed SplitService p8File ≡ p8Text)
-unfolding range every any select concat inserted sorted padded zeros zeroVector plus negative minus scale total weight within isZero cellBelow below cellOpposes opposes equalCell equal isMember greater combination named distinctCells isExchange exchanged identity composed earlier withRow withRows products closure groupTable signed orbit orbits greatest representative rank precedes storedRows firstState begun sumOf sumAt next isFinished firstBelow reduced remainder settled step isOver run sumCount completed hasOtherBelow finalRows placedOrbit placedOrbits cellTimes timesUpTo times withPiece splitting sign written share wholeRows wholeRowsUpTo chunks rowsOf filled vectorsOf numbersOf generatorsOf exchangesOf listRows groupRows tableOf firstFault faultIf faultFrom faultWhere unlessFault cellsFault orderFits sizeFault splitSizeFault broughtFits isPast isGenerator leavesGenerators numbersFault symmetryFault orderFault admissionFault splitFault isUnfit isMisplaced isUncertified rowsFault sumsFault wholenessFault listingOf listing listEnd listCall partsOf parts splitEnd splitCall rulesFault checkFault checkEnd checkCall commandOf commandAt signedOf littleAt grammar nextPhase oneIf countedBy passed admitted stepFrom stepOf after scanFrom scanOf numbersIn generatorsIn exchangesIn vectorIn digits decimal numbersText lineText linesText headText tableText movesText splitText refusedText answerText printed served servedBy p4File p4Text p7File p7Text p8File p8Text
+unfolding range every any select concat inserted sorted padded zeros zeroVector plus negative minus scale total weight within isZero cellBelow below cellOpposes opposes equalCell equal isMember greater combination named distinctCells isExchange exchanged identity composed earlier withRow withRows products closure groupTable signed orbit orbits greatest representative rank precedes storedRows firstState begun sumOf sumAt next isFinished firstBelow reduced remainder settled step isOver run sumCount completed hasOtherBelow finalRows placedOrbit placedOrbits cellTimes timesUpTo times withPiece splitting sign written share wholeRows wholeRowsUpTo chunks rowsOf filled vectorsOf numbersOf generatorsOf exchangesOf listRows groupRows tableOf firstFault faultIf faultFrom faultWhere unlessFault cellsFault orderFits sizeFault splitSizeFault broughtFits isPast isGenerator leavesGenerators numbersFault symmetryFault orderFault admissionFault splitFault isUnfit isMisplaced isUncertified rowsFault sumsFault wholenessFault listingOf listing listEnd listCall partsOf parts splitEnd splitCall rulesFault checkFault checkEnd checkCall commandOf commandAt signedOf littleAt oneIf passed admitted stepFrom stepOf after scanFrom scanOf commandsFrom commandsIn commandNumbers gathered generatorsIn exchangesIn vectorIn digits decimal numbersText lineText linesText headText tableText movesText splitText refusedText answerText printed served servedBy p4File p4Text p7File p7Text p8File p8Text
 examples-hold = (refl, refl, refl)

@@ -28,7 +28,8 @@ use Rattle.orders.specs.declared.Scanned.the-variants.{Counted as Accepted, Ref
 use Rattle.orders.specs.Scan.{scanOf}
 use Rattle.orders.specs.Operands.{coefficientsIn, rowsIn, vectorIn}
 use Rattle.orders.proofs.Numbers.{vector-count}
-use Rattle.orders.proofs.Scans.{accepted as accepted-order, turned-down}
+use Rattle.orders.proofs.Commands.{accepted as accepted-order}
+use Rattle.orders.proofs.Scans.{turned-down}
 use Rattle.answers.specs.Answers.{answerText, passedText}
 use Rattle.promises.specs.Services.{Served, groupSize, listSize, orderIn, piecesSize, printed, served, servedBy}
 use Rattle.promises.specs.Promise.{LiesInside, Listed, Outside, Parted, PassKept, Passing, PastEntries}
@@ -98,9 +99,10 @@ module _ (file : List ℕ) where
       → splitSizes (orderIn file c) (vectorIn file c) piecesSize ≡ None
   unfolding cellsFault splitSizeFault wholeRows
   sizes-right c e =
-      let L = accepted-order SplitService file c e .limited in
-      none-all _ (none-if 5 (rw (le-leb 1 (c .cells) (L .some), le-leb (c .cells) cells (L .cells-ok))))
-      (none-all _ (none-if 6 (rw (eq-eqb (length (vectorIn file c)) (c .cells) (vector-count file c)))) none-end)
+      let A = accepted-order SplitService file c e in
+      let L = A .readable .limited in
+      none-all _ (none-if 5 (rw (le-leb 1 (c .cells) (L .some), le-leb (c .cells) cells (L .few .cells-ok))))
+      (none-all _ (none-if 6 (rw (eq-eqb (length (vectorIn file c)) (c .cells) (vector-count file c A)))) none-end)
 
   -- a vector within the limit meets no test 14
   entries-pass : (vector : List ℤ) → within splitLimit vector ≡ true

@@ -28,7 +28,7 @@ use Rattle.orders.specs.declared.Counts.{Counts}
 use Rattle.orders.specs.declared.Scanned.the-variants.{Counted as Accepted}
 use Rattle.orders.specs.Scan.{scanOf}
 use Rattle.orders.specs.Operands.{coefficientsIn, rowsIn, vectorIn}
-use Rattle.orders.proofs.Scans.{accepted as accepted-order}
+use Rattle.orders.proofs.Commands.{accepted as accepted-order}
 use Rattle.orders.proofs.Numbers.{rows-count}
 use Rattle.answers.specs.Answers.{lineCount}
 use Rattle.promises.specs.Services.{Served, groupSize, listSize, orderIn, piecesSize, served, servedBy}
@@ -123,7 +123,7 @@ module _ (file : List ℕ) (c : Counts) (e : scanOf ListService file ≡ Accepte
     answers = order-answer ListService file e (H .answer);
     lines = order-lines ListService file e
         (ap (λ (a : Answer). chunks (c .cells) (lineCount a) (listCallIn file c .list)) (H .answer)
-        ∙ held-lines (c .cells) (accepted-order ListService file c e .limited .cells-ok) (found .rows)
+        ∙ held-lines (c .cells) (accepted-order ListService file c e .readable .limited .few .cells-ok) (found .rows)
         (rows-narrow (orderIn file c) found (listing-facts (orderIn file c) (listSize c) (groupSize c) found q))
         (listSize c) (H .list));
   }
@@ -166,8 +166,8 @@ module _ (file : List ℕ) (c : Counts) (e : scanOf CheckService file ≡ Accept
   -- the rows that were brought
   brought : length (rowsIn file c) / c .cells ≡ c .rows
   brought =
-      ap (λ (k : ℕ). k / c .cells) (rows-count file c)
-      ∙ mul-div-cancel (c .rows) (accepted-order CheckService file c e .limited .some)
+      ap (λ (k : ℕ). k / c .cells) (rows-count CheckService file c (accepted-order CheckService file c e))
+      ∙ mul-div-cancel (c .rows) (accepted-order CheckService file c e .readable .limited .some)
 
   -- the answer by the fault
   pub check-answer : {fault : Fault} → faultIn file c ≡ fault

@@ -3,21 +3,18 @@ use mathlib.Core.Path.{_≡_}
 use mathlib.Core.List.{List}
 use Prim.Native.Nat.{ℕ, _*_, _≤_}
 use native.Mathlib.Nat.{mul-le-mul}
-use native.Mathlib.Omega.{arith}
 use lib.IntN.{ℤ}
 use lib.ListN.{length}
 use Rattle.definitions.specs.Limits.{cells, exchangeLimit, generatorLimit, listLimit}
 use Rattle.orders.specs.declared.Service.{Service}
-use Rattle.orders.specs.declared.Service.the-variants.{List as ListService, Split as SplitService}
-use Rattle.orders.specs.declared.Service.the-variants.{Check as CheckService}
 use Rattle.orders.specs.declared.Counts.{Counts}
 use Rattle.orders.specs.declared.Scanned.the-variants.{Counted as Accepted}
-use Rattle.orders.specs.Scan.{scanOf}
-use Rattle.orders.specs.Operands.{Limited, headOf, lengthOf}
-use Rattle.orders.proofs.Scans.{accepted}
+use Rattle.orders.specs.Scan.{Few, scanOf}
+use Rattle.orders.proofs.Commands.{accepted}
+use Rattle.orders.proofs.Numbers.{exchanges-count, generators-count}
 use Rattle.services.specs.Answered.{OrderFits}
 
-module _ (c : Counts) (h : Limited c) where
+module _ (c : Counts) (h : Few c) where
   -- the generators
   pub generators-room : c .generators * c .cells ≤ generatorLimit * cells
   generators-room = mul-le-mul (h .generators-ok) (h .cells-ok)
@@ -40,9 +37,10 @@ pub order-fits : (v : Service) (file : List ℕ) (c : Counts) {generators : List
     → exchangeLimit * cells ≤ length exchanges → OrderFits file c generators exchanges
 order-fits v file c e g x =
     let A = accepted v file c e in
-    record { limited = A .limited; long = head-first v (A .long); generatorsFit = g; exchangesFit = x }
-  where
-    head-first : (v : Service) → length file ≡ lengthOf v c → headOf c ≤ length file
-    head-first ListService h = omega arith
-    head-first SplitService h = omega arith
-    head-first CheckService h = omega arith
+    record {
+      readable = A .readable;
+      generatorsCount = generators-count v file c A;
+      exchangesCount = exchanges-count v file c A;
+      generatorsFit = g;
+      exchangesFit = x;
+    }

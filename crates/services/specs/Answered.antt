@@ -10,15 +10,16 @@ use Rattle.definitions.specs.Limits.{cells, exchangeLimit, generatorLimit}
 use Rattle.definitions.specs.Lent.{chunks, filled}
 use Rattle.theory.proofs.Refused.{placeLimit}
 use Rattle.orders.specs.declared.Counts.{Counts}
-use Rattle.orders.specs.Operands.{Limited, exchangesIn, generatorsIn, headOf}
+use Rattle.orders.specs.Operands.{Readable, exchangesIn, generatorsIn}
 use Rattle.answers.specs.Answers.{lineCount}
 use Rattle.answers.specs.Refusal.{placeFactor}
 use Rattle.promises.specs.Services.{CallEnd, Served}
 
--- a file whose counts keep the limits holds the generators and the exchanges, and two areas have room for any
+-- the commands of a file can be read, its counts say how many numbers they have, and two areas have room for any
 pub record OrderFits (file : List ℕ) (c : Counts) (generators : List ℤ) (exchanges : List ℕ) : Type 0 where
-  pub limited : Limited c
-  pub long : headOf c ≤ length file
+  pub readable : Readable file c
+  pub generatorsCount : length (generatorsIn file c) ≡ c .generators * c .cells
+  pub exchangesCount : length (exchangesIn file c) ≡ c .exchanges * c .cells
   pub generatorsFit : generatorLimit * cells ≤ length generators
   pub exchangesFit : exchangeLimit * cells ≤ length exchanges
 

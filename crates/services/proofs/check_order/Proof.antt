@@ -7,8 +7,7 @@ use lib.Seq.{length-take-le}
 use Rattle.definitions.specs.Limits.{cells, generatorLimit, listLimit}
 use Rattle.orders.specs.declared.Service.the-variants.{Check as CheckService}
 use Rattle.orders.specs.Operands.{coefficientsIn, rowsIn}
-use Rattle.orders.proofs.Steps.{Accepted}
-use Rattle.orders.proofs.Scans.{accepted}
+use Rattle.orders.proofs.Commands.{Accepted, accepted}
 use Rattle.orders.proofs.Numbers.{coefficients-count, front, rows-count}
 use Rattle.services.proofs.Rooms.{coefficients-room, rows-room}
 use Rattle.services.proofs.Serving.{check-says, order-read}
@@ -22,13 +21,13 @@ module _ (s : tie.Start) where
   found = accepted CheckService (s .args .order .now) (s .args .c) (s .pre .0)
 
   few : s .args .c .cells ≤ cells
-  few = found .limited .cells-ok
+  few = found .readable .limited .few .cells-ok
 
   rows-few : s .args .c .rows * s .args .c .cells ≤ listLimit * cells
-  rows-few = rows-room (s .args .c) (found .limited)
+  rows-few = rows-room (s .args .c) (found .readable .limited .few)
 
   coefficients-few : s .args .c .rows * s .args .c .generators ≤ listLimit * generatorLimit
-  coefficients-few = coefficients-room (s .args .c) (found .limited)
+  coefficients-few = coefficients-room (s .args .c) (found .readable .limited .few)
 
 -- the rows that are lent
 module _ (c : tie.After-read-rows) where
@@ -44,8 +43,7 @@ module _ (c : tie.After-read-rows) where
   rows-read =
       let a = start .args in
       ap (take (a .c .rows * a .c .cells)) (c .read-rows .ensures)
-      ∙ front _ (rowsIn (a .order .now) (a .c)) (a .c .rows * a .c .cells) (rows-count (a .order .now) (a .c))
-      (rows-few start)
+      ∙ front _ (rowsIn (a .order .now) (a .c)) (a .c .rows * a .c .cells) (rows-count CheckService (a .order .now) (a .c) (found start))
 
 -- the coefficients that are lent
 module _ (c : tie.After-read-coefficients) where
@@ -62,7 +60,7 @@ module _ (c : tie.After-read-coefficients) where
       let a = begin .args in
       ap (take (a .c .rows * a .c .generators)) (c .read-coefficients .ensures)
       ∙ front _ (coefficientsIn (a .order .now) (a .c)) (a .c .rows * a .c .generators)
-      (coefficients-count (a .order .now) (a .c)) (coefficients-few begin)
+      (coefficients-count CheckService (a .order .now) (a .c) (found begin))
 
 mul-m : tie.Need-mul-m
 mul-m c = search needs
@@ -85,7 +83,7 @@ slice-aggregate-read-rows c = search needs
 read-rows-requires : tie.Need-read-rows-requires
 read-rows-requires c κs =
     let s = c .before .before .before .before .before .before .before in
-    (found s .limited, omega (arith, found s .long), rows-few s)
+    (found s .readable, omega (arith, rows-count CheckService (s .args .order .now) (s .args .c) (found s), rows-few s))
 
 slice-aggregate-read-coefficients : tie.Need-slice-aggregate-read-coefficients
 slice-aggregate-read-coefficients c = search needs
@@ -93,7 +91,7 @@ slice-aggregate-read-coefficients c = search needs
 read-coefficients-requires : tie.Need-read-coefficients-requires
 read-coefficients-requires c κs =
     let s = c .before .before .before .before .before .before .before .before .before .before in
-    (found s .limited, omega (arith, found s .long), coefficients-few s)
+    (found s .readable, omega (arith, coefficients-count CheckService (s .args .order .now) (s .args .c) (found s), coefficients-few s))
 
 slice-aggregate-check : tie.Need-slice-aggregate-check
 slice-aggregate-check c =

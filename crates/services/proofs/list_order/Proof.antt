@@ -6,8 +6,8 @@ use lib.ListN.{length}
 use lib.Seq.{length-take-le}
 use Rattle.definitions.specs.Limits.{listLimit}
 use Rattle.orders.specs.declared.Service.the-variants.{List as ListService}
-use Rattle.orders.specs.Operands.{Limited}
-use Rattle.orders.proofs.Scans.{accepted}
+use Rattle.orders.specs.Scan.{Few}
+use Rattle.orders.proofs.Commands.{accepted}
 use Rattle.services.proofs.Serving.{order-read, list-serves}
 use borrow.Author.Needs.{needs}
 use Rattle.services.proofs.list_order.Statement.{statement}
@@ -15,8 +15,8 @@ use Rattle.services.proofs.list_order.Tie as tie
 
 -- the file is accepted
 module _ (s : tie.Start) where
-  limited : Limited (s .args .c)
-  limited = accepted ListService (s .args .order .now) (s .args .c) (s .pre .0) .limited
+  limited : Few (s .args .c)
+  limited = accepted ListService (s .args .order .now) (s .args .c) (s .pre .0) .readable .limited .few
 
   list-fits : listLimit * s .args .c .cells ≤ length (s .args .list .now)
   list-fits = omega (arith, s .pre .1 .1, limited .cells-ok)

@@ -4,7 +4,7 @@ use Prim.Native.Nat.{_*_, _≤_}
 use native.Mathlib.Omega.{arith}
 use lib.ListN.{length, take}
 use Rattle.orders.specs.Operands.{exchangesIn, generatorsIn}
-use Rattle.orders.proofs.Numbers.{exchanges-count, front, generators-count}
+use Rattle.orders.proofs.Numbers.{front}
 use Rattle.services.proofs.Rooms.{exchanges-room, generators-room}
 use borrow.Author.Needs.{needs}
 use Rattle.services.proofs.read_order.Statement.{statement}
@@ -13,12 +13,12 @@ use Rattle.services.proofs.read_order.Tie as tie
 read-generators-requires : tie.Need-read-generators-requires
 read-generators-requires c κs =
     let s = c .before .before .before in
-    (s .pre .limited, s .pre .long, omega (arith, s .pre .generatorsFit, generators-room (s .args .c) (s .pre .limited)))
+    (s .pre .readable, omega (arith, s .pre .generatorsCount, s .pre .generatorsFit, generators-room (s .args .c) (s .pre .readable .limited .few)))
 
 read-exchanges-requires : tie.Need-read-exchanges-requires
 read-exchanges-requires c κs =
     let s = c .before .before .before .before .before .before in
-    (s .pre .limited, s .pre .long, omega (arith, s .pre .exchangesFit, exchanges-room (s .args .c) (s .pre .limited)))
+    (s .pre .readable, omega (arith, s .pre .exchangesCount, s .pre .exchangesFit, exchanges-room (s .args .c) (s .pre .readable .limited .few)))
 
 same-length : tie.Need-same-length
 same-length c = search needs
@@ -30,7 +30,7 @@ returns : tie.Need-returns
 returns c =
     let s = c .before .before .before .before .before .before .before .before .before in
     let a = s .args in
-    let h = s .pre .limited in
+    let h = s .pre .readable .limited .few in
     let g = c .before .before .before .before .before .read-generators in
     let e = c .before .before .read-exchanges in
     let gs : a .c .generators * a .c .cells ≤ length (a .generators .now) =
@@ -43,11 +43,11 @@ returns c =
       generatorsAre =
           ap (take (a .c .generators * a .c .cells)) (g .ensures)
           ∙ front (a .generators .now) (generatorsIn (a .order .now) (a .c)) (a .c .generators * a .c .cells)
-          (generators-count (a .order .now) (a .c)) gs;
+          (s .pre .generatorsCount);
       exchangesAre =
           ap (take (a .c .exchanges * a .c .cells)) (e .ensures)
           ∙ front (a .exchanges .now) (exchangesIn (a .order .now) (a .c)) (a .c .exchanges * a .c .cells)
-          (exchanges-count (a .order .now) (a .c)) es;
+          (s .pre .exchangesCount);
     }
 
 pub read-order-spec : {M : Type 1} → statement M

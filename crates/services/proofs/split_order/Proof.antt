@@ -7,8 +7,7 @@ use lib.Seq.{length-take-le}
 use Rattle.definitions.specs.Limits.{cells}
 use Rattle.orders.specs.declared.Service.the-variants.{Split as SplitService}
 use Rattle.orders.specs.Operands.{vectorIn}
-use Rattle.orders.proofs.Steps.{Accepted}
-use Rattle.orders.proofs.Scans.{accepted}
+use Rattle.orders.proofs.Commands.{Accepted, accepted}
 use Rattle.orders.proofs.Numbers.{front, vector-count}
 use Rattle.services.proofs.Serving.{order-read, split-serves}
 use borrow.Author.Needs.{needs}
@@ -21,7 +20,7 @@ module _ (s : tie.Start) where
   found = accepted SplitService (s .args .order .now) (s .args .c) (s .pre .0)
 
   few : s .args .c .cells ≤ cells
-  few = found .limited .cells-ok
+  few = found .readable .limited .few .cells-ok
 
 -- the vector that is lent
 module _ (c : tie.After-read-vector) where
@@ -37,7 +36,7 @@ module _ (c : tie.After-read-vector) where
   vector-read =
       let a = start .args in
       ap (take (a .c .cells)) (c .read-vector .ensures)
-      ∙ front _ (vectorIn (a .order .now) (a .c)) (a .c .cells) (vector-count (a .order .now) (a .c)) (few start)
+      ∙ front _ (vectorIn (a .order .now) (a .c)) (a .c .cells) (vector-count (a .order .now) (a .c) (found start))
 
 mul-m : tie.Need-mul-m
 mul-m c = search needs
@@ -57,7 +56,7 @@ slice-aggregate-read-vector c = search needs
 read-vector-requires : tie.Need-read-vector-requires
 read-vector-requires c κs =
     let s = c .before .before .before .before .before in
-    (found s .limited, omega (arith, found s .long), few s)
+    (found s .readable, omega (arith, vector-count (s .args .order .now) (s .args .c) (found s), few s))
 
 slice-aggregate-split : tie.Need-slice-aggregate-split
 slice-aggregate-split c =

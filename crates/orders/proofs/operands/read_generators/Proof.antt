@@ -1,34 +1,22 @@
--- `read_generators` meets its contract: the operands lie where the counts say. Assumes nothing.
-use mathlib.Core.Path.{refl, subst⁻¹}
+-- `read_generators` meets its contract. Assumes nothing.
+use mathlib.Core.Path.{refl}
 use mathlib.Core.Logic.{inl}
-use Prim.Native.Nat.{_*_, _≤_}
-use lib.ListN.{length}
-use Rattle.orders.specs.declared.operands.Places.{Places}
-use Rattle.orders.specs.Operands.{LieWithin, SignedSize, signedAt, generatorsIn}
-use Rattle.orders.proofs.Numbers.{same-places}
-use Rattle.orders.proofs.Sizes.{generators-lie}
 use borrow.Author.Needs.{needs}
+use Rattle.orders.specs.Operands.{generatorsIn}
+use Rattle.orders.proofs.Walks.{holds-generator}
 use Rattle.orders.proofs.operands.read_generators.Statement.{statement}
 use Rattle.orders.proofs.operands.read_generators.Tie as tie
 
-generator-places-requires : tie.Need-generator-places-requires
-generator-places-requires c κs = search needs
-
 read-numbers-requires : tie.Need-read-numbers-requires
-read-numbers-requires c κs =
-    let s = c .before .before .before in
-    subst⁻¹ (λ (p : Places). SignedSize 2 × LieWithin (s .args .order .now) p 2 × (p .count * p .width ≤ length (s .args .area .now)))
-    (c .before .generator-places .ensures) (inl refl, generators-lie (s .args .order .now) (s .args .c) (s .pre .1), s .pre .2)
+unfolding generatorsIn
+read-numbers-requires c κs = let s = c .before .before in (s .pre .0, ((inl refl, holds-generator (s .args .c)), s .pre .1))
 
 same-length : tie.Need-same-length
 same-length c = search needs
 
 returns : tie.Need-returns
 unfolding generatorsIn
-returns c =
-    let a = c .before .before .before .before .before .args in
-    same-places (signedAt 2 (a .order .now)) 2 (a .area .now) (c .before .read-numbers .ensures) (c .before .before .before .generator-places .ensures)
+returns c = search needs
 
 pub read-generators-spec : {M : Type 1} → statement M
-read-generators-spec =
-    tie.close (tie.spec generator-places-requires read-numbers-requires same-length returns)
+read-generators-spec = tie.close (tie.spec read-numbers-requires same-length returns)

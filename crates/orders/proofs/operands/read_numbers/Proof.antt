@@ -1,90 +1,91 @@
--- `read_numbers` meets its contract. The invariant: the first `i` numbers are in the area. Assumes nothing.
-use mathlib.Core.Path.{_∙_}
-use Prim.Native.Nat.{_-_, _*_}
+-- `read_numbers` meets its contract. The invariant: the numbers of the commands before `at` are in the area. Assumes nothing.
+use mathlib.Core.Path.{_≡_, sym, subst⁻¹, _∙_}
+use Prim.Native.Nat.{ℕ, _-_}
 use native.Mathlib.Omega.{arith}
-use lib.IntN.{pos}
-use mir.Syntax.{w32}
-use mir.ValLaws.{toZ-ofZ}
-use Rattle.orders.specs.Operands.{signedAt}
-use Rattle.orders.proofs.Numbers.{Filling, filling-start, filling-turn, filling-end, some-width, place-room}
-use Rattle.orders.proofs.Parts.{signed-number, part-room}
+use lib.ListN.{length}
+use borrow.Author.Needs.{needs}
+use Rattle.commands.specs.declared.Reading.the-variants.{Known}
+use Rattle.commands.specs.Commands.{commandAt}
+use Rattle.commands.proofs.Known.{known-at}
+use Rattle.orders.specs.Walk.{signedIn}
+use Rattle.orders.proofs.Walks.{Walking, walk-start, walk-inside, walk-room, walk-turn, walk-end, walk-length}
 use Rattle.orders.proofs.operands.read_numbers.Statement.{statement}
 use Rattle.orders.proofs.operands.read_numbers.Tie as tie
 
 abbrev Inv-loop : tie.InvT-loop
-Inv-loop order p size area₀ total i₀ area i = Filling (signedAt size order) p size area₀ area i
+Inv-loop order c kind area₀ at₀ filled₀ area at filled = Walking (kind .code) (signedIn kind) order c area₀ area at filled
 
 abbrev μ-loop : tie.MeasureT-loop
-μ-loop order p size area₀ total i₀ area i = p .count * p .width - i
-
-mul-total : tie.Need-mul-total Inv-loop μ-loop
-mul-total c = omega (arith, c .before .before .pre .2)
+μ-loop order c kind area₀ at₀ filled₀ area at filled = length order - at
 
 loop-holds : tie.Need-loop-holds Inv-loop μ-loop
-loop-holds c = let a = c .before .before .args in filling-start (pos 0) (signedAt (a .size) (a .order .now)) (a .p) (a .size) (a .area .now)
+loop-holds c = let s = c .before in let a = s .args in walk-start ((a .kind) .code) (signedIn (a .kind)) (a .order .now) (a .c) (a .area .now) (s .pre .0)
 
-start-of-requires : tie.Need-start-of-requires Inv-loop μ-loop
-start-of-requires c κs =
-    let s = c .before .before .before .before in
-    let i = c .before .loop .i in
-    (some-width (s .args .p .count) (s .args .p .width) i (omega arith), omega (arith, place-room (s .args .order .now) (s .args .p) (s .args .size) i (s .pre .1) (omega arith)))
+command-at-requires : tie.Need-command-at-requires Inv-loop μ-loop
+command-at-requires c κs = search needs
 
-sub-part : tie.Need-sub-part Inv-loop μ-loop
-sub-part c =
-    let s = c .before .before .before .before .before in
-    let e = c .start-of .ensures in
-    omega (arith, place-room (s .args .order .now) (s .args .p) (s .args .size) (c .before .before .loop .i) (s .pre .1) (omega arith))
-
-part-part-start : tie.Need-part-part-start Inv-loop μ-loop
-part-part-start c = sub-part c
-
-part-part-end : tie.Need-part-part-end Inv-loop μ-loop
-part-part-end c = omega arith
-
-rem-signed-at : tie.Need-rem-signed-at Inv-loop μ-loop
-rem-signed-at c = let a = c .before .before .before .before .before .before .before .args in some-width (a .p .count) (a .p .width) (c .before .before .before .before .loop .i) (omega arith)
-
-mul-signed-at : tie.Need-mul-signed-at Inv-loop μ-loop
-mul-signed-at c =
-    let s = c .before .before .before .before .before .before .before in
-    omega (arith, place-room (s .args .order .now) (s .args .p) (s .args .size) (c .before .before .before .before .loop .i) (s .pre .1) (omega arith))
-
-signed-at-requires : tie.Need-signed-at-requires Inv-loop μ-loop
-signed-at-requires c κs =
-    let s = c .before .before .before .before .before .before .before in
-    let start = c .before .before .start-of in
-    (s .pre .0, part-room (s .args .order .now) (start .result) (s .args .p) (s .args .size) (c .before .before .before .before .loop .i) (s .pre .1) (omega arith) (start .ensures))
-
-mul-t15 : tie.Need-mul-t15 Inv-loop μ-loop
-mul-t15 c = omega arith
-
-slice-set-from-area : tie.Need-slice-set-from-area Inv-loop μ-loop
-slice-set-from-area c = omega arith
-
-add-i : tie.Need-add-i Inv-loop μ-loop
-add-i c = omega arith
-
-loop-less : tie.Need-loop-less Inv-loop μ-loop
-loop-less c = omega arith
-
-loop-again : tie.Need-loop-again Inv-loop μ-loop
-loop-again c =
-    let s = c .before .before .before .before .before .before .before .before in
-    let o = c .before .before .before .before .before .loop in
-    let start = c .before .before .before .start-of in
-    filling-turn (pos 0) (signedAt (s .args .size) (s .args .order .now)) (s .args .p) (s .args .size) (s .args .area .now) (o .area) (o .i) (o .inv)
-    (toZ-ofZ w32 (c .signed-at .result) (record { sfits = c .signed-at .ok })
-    ∙ c .signed-at .ensures
-    ∙ signed-number (s .args .order .now) (start .result) (s .args .p) (s .args .size) (o .i) (start .ensures)) (omega arith) (s .pre .2)
+enum-known-reading : tie.Need-enum-known-reading Inv-loop μ-loop
+enum-known-reading c = search needs
 
 same-length : tie.Need-same-length Inv-loop μ-loop
-same-length c = c .before .loop .inv .same
+same-length c =
+    let s = c .before .before .before .before in
+    let a = s .args in
+    let l = c .before .before .loop in
+    walk-length ((a .kind) .code) (signedIn (a .kind)) (a .order .now) (a .c) (a .area .now) (l .area) (l .at) (l .filled) (l .inv) (s .pre .1 .1)
 
 returns : tie.Need-returns Inv-loop μ-loop
 returns c =
     let a = c .before .before .before .before .args in
-    let o = c .before .loop in
-    filling-end (pos 0) (signedAt (a .size) (a .order .now)) (a .p) (a .size) (a .area .now) (o .area) (o .i) (o .inv) (omega arith)
+    let l = c .before .before .loop in
+    walk-end ((a .kind) .code) (signedIn (a .kind)) (a .order .now) (a .c) (a .area .now) (l .area) (l .at) (l .filled) (l .inv) (c .before .command-at .ensures) (c .match .keys2)
+
+-- the command that was read
+module _ (c : tie.After-reading Inv-loop μ-loop) where
+  abbrev start : tie.Start Inv-loop μ-loop
+  start = c .before .before .before .before .before
+
+  known : commandAt (start .args .order .now) (c .before .before .before .loop .at) ≡ Known (c .reading .given .0 .0)
+  known = sym (c .before .before .command-at .ensures) ∙ c .reading .given .1
+
+take-numbers-requires : tie.Need-take-numbers-requires Inv-loop μ-loop
+take-numbers-requires c κs =
+    let r = c .before .before in
+    let s = start r in
+    let a = s .args in
+    let l = r .before .before .before .loop in
+    let x = r .reading .given .0 .0 in
+    let fits = walk-inside ((a .kind) .code) (signedIn (a .kind)) (a .order .now) (a .c) (a .area .now) (l .area) (l .at) (l .filled) x (known r) (l .inv) in
+    let room = walk-room ((a .kind) .code) (signedIn (a .kind)) (a .order .now) (a .c) (a .area .now) (l .area) (l .at) (l .filled) x (known r) (l .inv) (s .pre .1 .1) in
+    (s .pre .1 .0 .0, ((λ e. omega (arith, s .pre .1 .0 .1 x e)), room))
+
+behind-requires : tie.Need-behind-requires Inv-loop μ-loop
+behind-requires c κs =
+    let r = c .before .before .before .before in
+    let s = start r in
+    let few = s .pre .0 .limited .few in
+    let o = known-at (s .args .order .now) (r .before .before .before .loop .at) (r .reading .given .0 .0) (known r) in
+    ((few .cells-ok, few .generators-ok), omega arith)
+
+loop-less : tie.Need-loop-less Inv-loop μ-loop
+loop-less c =
+    let r = c .before .before .before .before .before in
+    let a = start r .args in
+    let l = r .before .before .before .loop in
+    let x = r .reading .given .0 .0 in
+    let fits = walk-inside ((a .kind) .code) (signedIn (a .kind)) (a .order .now) (a .c) (a .area .now) (l .area) (l .at) (l .filled) x (known r) (l .inv) in
+    let o = known-at (a .order .now) (l .at) x (known r) in
+    omega (arith, c .behind .ensures)
+
+loop-again : tie.Need-loop-again Inv-loop μ-loop
+loop-again c =
+    let r = c .before .before .before .before .before in
+    let s = start r in
+    let a = s .args in
+    let l = r .before .before .before .loop in
+    let t = c .before .before .take-numbers in
+    subst⁻¹ (λ (at : ℕ). Walking ((a .kind) .code) (signedIn (a .kind)) (a .order .now) (a .c) (a .area .now) (t .last .1 .1 .1 .1 .0) at (t .result)) (c .behind .ensures)
+    (walk-turn ((a .kind) .code) (signedIn (a .kind)) (a .order .now) (a .c) (a .area .now) (l .area) (l .at) (l .filled) (r .reading .given .0 .0) (known r) _ (t .result) (l .inv) (t .ensures) (s .pre .1 .1))
 
 pub read-numbers-spec : {M : Type 1} → statement M
 read-numbers-spec =
@@ -92,19 +93,12 @@ read-numbers-spec =
     (tie.spec
     Inv-loop
     μ-loop
-    mul-total
     loop-holds
-    start-of-requires
-    sub-part
-    part-part-start
-    part-part-end
-    rem-signed-at
-    mul-signed-at
-    signed-at-requires
-    mul-t15
-    slice-set-from-area
-    add-i
-    loop-less
-    loop-again
+    command-at-requires
+    enum-known-reading
     same-length
-    returns)
+    returns
+    take-numbers-requires
+    behind-requires
+    loop-less
+    loop-again)

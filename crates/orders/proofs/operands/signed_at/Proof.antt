@@ -6,7 +6,8 @@ use native.Mathlib.Omega.{arith}
 use mir.Syntax.{w32}
 use mir.ValLaws.{toZ-ofZ}
 use borrow.Author.Needs.{needs}
-use Rattle.orders.specs.Operands.{SignedSize, signedAt}
+use Rattle.commands.specs.Decode.{signedAt}
+use Rattle.orders.specs.Walk.{SignedSize}
 use Rattle.orders.proofs.operands.signed_at.Statement.{statement}
 use Rattle.orders.proofs.operands.signed_at.Tie as tie
 
