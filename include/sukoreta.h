@@ -20,7 +20,7 @@
  *   r < 0   -(32 * place + number) of a refusal; the whole area holds zeros. An answer that is longer than the area
  *           is refused with 6 at 0, that is -6, after every other test.
  *
- * Refusals. 1 to 6 are met in the order of the file's bytes, then the others in the order of this table, for each
+ * Refusals. 1 to 6 are met byte by byte from the file's start, then the others line by line down this table, for each
  * number at the lowest place first. All counting starts at 0.
  *
  *   number  met when                                                               place
@@ -49,7 +49,7 @@
  *   16      there are more than 64 pieces                                          0
  *   check
  *   17      a row is zero, has an entry past +-10,000 or is not its greatest image row
- *   18      a row does not come after the row before it in list order              row
+ *   18      the row before it does not precede the row, equal rows included        row
  *   19      a coefficient is past +-1,000,000, or the combination is not the row   row
  *   20      the remainder of a generator is not zero                               generator
  *   21      the remainder of a sum is not zero                                     sums tried, this one counted

@@ -1,13 +1,10 @@
 // The tests with which every call begins, 5 to 11, and the table of the group in its area (Specification 7.1 to 7.3).
 ghost use mathlib.Core.Path.{_≡_};
-ghost use mathlib.Core.List.{[], _∷_};
 ghost use Prim.Native.Nat.{_/_, _≤_, min};
-ghost use lib.ListN.{length};
 ghost use Rattle.definitions.specs.Limits.{cells};
-ghost use Rattle.definitions.specs.Lent.{orderOf, tableOf};
-ghost use Rattle.definitions.specs.Refusals.{admissionFault, cellsFault, firstFault};
-ghost use Rattle.definitions.specs.Refusals.{numbersFault, sizeFault, symmetryFault};
-ghost use Rattle.admission.specs.Admission.{Numbered, Tabled, admissionOf};
+ghost use Rattle.definitions.specs.Lent.{orderOf};
+ghost use Rattle.definitions.specs.Refusals.{numbersFault};
+ghost use Rattle.admission.specs.Admission.{Admits, Numbered, Tabulates, admissionOf, sentFault};
 use definitions::Fault;
 use definitions::limits::ENTRY_LIMIT;
 use definitions::limits::GROUP_LIMIT;
@@ -53,10 +50,7 @@ fn numbers_fault(n: usize, generators: &[i32], exchanges: &[u8]) -> Fault
 
 // Refusals 5 to 9, with a group area of `group` numbers; `fits` says whether what else is lent has the right size.
 pub fn sent_fault(n: usize, generators: &[i32], exchanges: &[u8], group: usize, fits: bool) -> Fault
-    ensures met { λ r. ⌜
-        (let order = orderOf n (now (generators .entry)) (now (exchanges .entry)) in
-        r ≡ firstFault (cellsFault n ∷ sizeFault order group fits ∷ numbersFault order ∷ []))
-        ⌝ }
+    ensures met { λ r. ⌜ r ≡ sentFault (orderOf n (now (generators .entry)) (now (exchanges .entry))) group fits ⌝ }
 {
     let celled = cells_fault(n);
     let sized = size_fault(n, generators, exchanges, group, fits);
@@ -80,11 +74,7 @@ fn unless_met(fault: Fault, g: usize) -> Admission
 // Refusals 10 and 11, and the table of the group in its area (Specification 2.5 and 7.2).
 pub fn tabulate(n: usize, generators: &[i32], exchanges: &[u8], group: &mut [u8]) -> Admission
     requires numbered { ⌜ Numbered (orderOf n (now generators) (now exchanges)) ⌝ }
-    ensures tabled { λ r. ⌜
-        (let order = orderOf n (now (generators .entry)) (now (exchanges .entry)) in
-        let size = length (now (group .entry)) in
-        Tabled size (symmetryFault order size) (tableOf order size) (now (group .exit)) r)
-        ⌝ }
+    ensures tabled { λ r. ⌜ Tabulates n generators exchanges group r ⌝ }
 {
     let limit = rows_up_to(GROUP_LIMIT, n, group.len());
     let built = group_table(&mut *group, n, limit, exchanges);
@@ -105,11 +95,7 @@ pub fn admit(
     fits: bool,
     group: &mut [u8],
 ) -> Admission
-    ensures tabled { λ r. ⌜
-        (let order = orderOf n (now (generators .entry)) (now (exchanges .entry)) in
-        let size = length (now (group .entry)) in
-        Tabled size (admissionFault order size fits) (tableOf order size) (now (group .exit)) r)
-        ⌝ }
+    ensures tabled { λ r. ⌜ Admits n generators exchanges fits group r ⌝ }
 {
     let fault = sent_fault(n, generators, exchanges, group.len(), fits);
     match fault {

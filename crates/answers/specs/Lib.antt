@@ -1,4 +1,4 @@
--- The answers as text, a text in a lent area, and a refusal as a result, in the order of Specification 9.
+-- The answers as text, a text in a lent area, and a refusal as a result, as Specification 9 goes.
 pub mod Text
 pub mod Answers
 pub mod Parts

@@ -6,8 +6,10 @@ use Prim.Native.Nat.{ℕ, _+_, _-_}
 use lib.ListN.{length, replicate}
 use lib.Seq.{paste}
 use lib.Dec.{leb}
+use denote.Ref.{now}
 use Rattle.definitions.specs.Lists.{if_then_else_}
 use Rattle.definitions.specs.Lent.{filled}
+use Rattle.vectors.specs.Areas.{Lent}
 
 -- ---- a whole text
 
@@ -23,6 +25,10 @@ endOf n text = if leb (length text) n then length text else n + 1
 pub record Laid (n : ℕ) (area : List ℕ) (end : ℕ) (text : List ℕ) : Type 0 where
   pub page : area ≡ pageOf n text
   pub place : end ≡ endOf n text
+
+-- .. a lent area
+abbrev pub LaidIn : (area : Lent ℕ) (end : ℕ) (text : List ℕ) → Type 0
+LaidIn area end text = Laid (length (now (area .entry))) (now (area .exit)) end text
 
 -- ---- a text behind others
 
@@ -43,3 +49,7 @@ behind n at text = if fits n at text then at + length text else n + 1
 pub record Wrote (entry exit : List ℕ) (at end : ℕ) (text : List ℕ) : Type 0 where
   pub page : exit ≡ written entry at text
   pub place : end ≡ behind (length entry) at text
+
+-- .. of a lent area
+abbrev pub WroteIn : (area : Lent ℕ) (at end : ℕ) (text : List ℕ) → Type 0
+WroteIn area at end text = Wrote (now (area .entry)) (now (area .exit)) at end text

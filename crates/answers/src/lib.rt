@@ -8,9 +8,9 @@ ghost use lib.ListN.{length};
 ghost use lib.Seq.{paste};
 ghost use Rattle.definitions.specs.Lent.{chunks};
 ghost use Rattle.answers.specs.Text.{decimal, decimalℤ};
-ghost use Rattle.answers.specs.Answers.{countText, lineText, linesText, headText, tableText, lineCount, rowsText};
-ghost use Rattle.answers.specs.Page.{Laid, Wrote};
-ghost use Rattle.answers.specs.Parts.{placedText};
+ghost use Rattle.answers.specs.Answers.{countText, lineText, linesText, headText, lineCount, rowsText};
+ghost use Rattle.answers.specs.Page.{LaidIn, WroteIn};
+ghost use Rattle.answers.specs.Parts.{placedText, tableTextIn};
 ghost use Rattle.answers.specs.Refusal.{refusalCode, refusalOf};
 use definitions::Answer;
 use vectors::clear_bytes;
@@ -48,7 +48,7 @@ fn room(n: usize, at: usize) -> usize
 
 // Writes a text at a place, and answers the place behind it.
 pub fn put_text(area: &mut [u8], at: usize, text: &[u8]) -> usize
-    ensures wrote { λ r. ⌜ Wrote (now (area .entry)) (now (area .exit)) at r (now (text .entry)) ⌝ }
+    ensures wrote { λ r. ⌜ WroteIn area at r (now (text .entry)) ⌝ }
 {
     let n = area.len();
     let m = text.len();
@@ -62,7 +62,7 @@ pub fn put_text(area: &mut [u8], at: usize, text: &[u8]) -> usize
 
 // Writes one byte.
 pub fn put_byte(area: &mut [u8], at: usize, b: u8) -> usize
-    ensures wrote { λ r. ⌜ Wrote (now (area .entry)) (now (area .exit)) at r (b ∷ []) ⌝ }
+    ensures wrote { λ r. ⌜ WroteIn area at r (b ∷ []) ⌝ }
 {
     let text = [b];
     put_text(area, at, &text)
@@ -70,7 +70,7 @@ pub fn put_byte(area: &mut [u8], at: usize, b: u8) -> usize
 
 // Writes a number in decimal: the digits of its tenth part, and the last one.
 pub fn put_natural(area: &mut [u8], at: usize, x: u64) -> usize
-    ensures wrote { λ r. ⌜ Wrote (now (area .entry)) (now (area .exit)) at r (decimal x) ⌝ }
+    ensures wrote { λ r. ⌜ WroteIn area at r (decimal x) ⌝ }
 {
     let last = b'0' + (x % 10) as u8;
     if x < 10 {
@@ -92,7 +92,7 @@ fn magnitude(z: i64) -> u64
 
 // Writes a signed number in decimal.
 pub fn put_integer(area: &mut [u8], at: usize, z: i64) -> usize
-    ensures wrote { λ r. ⌜ Wrote (now (area .entry)) (now (area .exit)) at r (decimalℤ z) ⌝ }
+    ensures wrote { λ r. ⌜ WroteIn area at r (decimalℤ z) ⌝ }
 {
     let size = magnitude(z);
     if z < 0 {
@@ -104,7 +104,7 @@ pub fn put_integer(area: &mut [u8], at: usize, z: i64) -> usize
 
 // Writes a space and a count.
 fn put_count(area: &mut [u8], at: usize, x: u64) -> usize
-    ensures wrote { λ r. ⌜ Wrote (now (area .entry)) (now (area .exit)) at r (countText x) ⌝ }
+    ensures wrote { λ r. ⌜ WroteIn area at r (countText x) ⌝ }
 {
     let next = put_byte(area, at, b' ');
     put_natural(area, next, x)
@@ -112,10 +112,7 @@ fn put_count(area: &mut [u8], at: usize, x: u64) -> usize
 
 // Writes a line that begins with a word: the word and the counts.
 pub fn put_head(area: &mut [u8], at: usize, word: &[u8], counts: &[u64]) -> usize
-    ensures wrote { λ r. ⌜
-        (let text = headText (now (word .entry)) (now (counts .entry)) in
-        Wrote (now (area .entry)) (now (area .exit)) at r text)
-        ⌝ }
+    ensures wrote { λ r. ⌜ WroteIn area at r (headText (now (word .entry)) (now (counts .entry))) ⌝ }
 {
     let mut end = put_text(area, at, word);
     let mut i = 0;
@@ -129,7 +126,7 @@ pub fn put_head(area: &mut [u8], at: usize, word: &[u8], counts: &[u64]) -> usiz
 // Writes number j of a line, with a space before it unless it is the first.
 fn put_entry(area: &mut [u8], at: usize, line: &[i32], j: usize) -> usize
     requires entry { ⌜ j < length (now line) ⌝ }
-    ensures wrote { λ r. ⌜ Wrote (now (area .entry)) (now (area .exit)) at r (placedText (now (line .entry)) j) ⌝ }
+    ensures wrote { λ r. ⌜ WroteIn area at r (placedText (now (line .entry)) j) ⌝ }
 {
     let z = line[j] as i64;
     if j == 0 {
@@ -141,7 +138,7 @@ fn put_entry(area: &mut [u8], at: usize, line: &[i32], j: usize) -> usize
 
 // Writes a line of numbers.
 pub fn put_line(area: &mut [u8], at: usize, line: &[i32]) -> usize
-    ensures wrote { λ r. ⌜ Wrote (now (area .entry)) (now (area .exit)) at r (lineText (now (line .entry))) ⌝ }
+    ensures wrote { λ r. ⌜ WroteIn area at r (lineText (now (line .entry))) ⌝ }
 {
     let mut end = at;
     let mut j = 0;
@@ -155,10 +152,7 @@ pub fn put_line(area: &mut [u8], at: usize, line: &[i32]) -> usize
 // Writes the first rows of an area of numbers, a line for each row of `width`.
 pub fn put_rows(area: &mut [u8], at: usize, numbers: &[i32], width: usize, count: usize) -> usize
     requires rows { ⌜ count * width ≤ length (now numbers) ⌝ }
-    ensures wrote { λ r. ⌜
-        (let text = linesText (chunks width count (now (numbers .entry))) in
-        Wrote (now (area .entry)) (now (area .exit)) at r text)
-        ⌝ }
+    ensures wrote { λ r. ⌜ WroteIn area at r (linesText (chunks width count (now (numbers .entry)))) ⌝ }
 {
     let mut end = at;
     let mut from = 0;
@@ -182,11 +176,7 @@ fn put_table(
     count: usize,
 ) -> usize
     requires rows { ⌜ count * width ≤ length (now numbers) ⌝ }
-    ensures wrote { λ r. ⌜
-        (let lines = chunks width count (now (numbers .entry)) in
-        let text = tableText (now (word .entry)) (now (counts .entry)) lines in
-        Wrote (now (area .entry)) (now (area .exit)) 0 r text)
-        ⌝ }
+    ensures wrote { λ r. ⌜ WroteIn area 0 r (tableTextIn word counts width count numbers) ⌝ }
 {
     let head = put_head(area, 0, word, counts);
     let rows = put_rows(area, head, numbers, width, count);
@@ -197,10 +187,7 @@ fn put_table(
 // area's length, where the text is longer (Specification 9.4). Its lines are the first rows of `width` numbers.
 pub fn write_answer(area: &mut [u8], answer: Answer, numbers: &[i32], width: usize) -> usize
     requires rows { ⌜ lineCount answer * width ≤ length (now numbers) ⌝ }
-    ensures laid { λ r. ⌜
-        (let text = rowsText answer width (now (numbers .entry)) in
-        Laid (length (now (area .entry))) (now (area .exit)) r text)
-        ⌝ }
+    ensures laid { λ r. ⌜ LaidIn area r (rowsText answer width (now (numbers .entry))) ⌝ }
 {
     clear_bytes(&mut *area, 0);
     match answer {

@@ -6,12 +6,16 @@ use mathlib.Core.List.{List, []}
 use Prim.Native.Nat.{ℕ, _*_, _/_, _≤_}
 use lib.IntN.{ℤ}
 use lib.ListN.{length, getD}
+use denote.Ref.{now}
 use Rattle.definitions.specs.declared.Fault.{Fault}
 use Rattle.definitions.specs.Limits.{entryLimit, generatorLimit}
 use Rattle.definitions.specs.Vector.{Vector, within}
 use Rattle.definitions.specs.Group.{Exchange}
 use Rattle.definitions.specs.Lent.{chunks}
-use Rattle.definitions.specs.Refusals.{faultWhere, isUnfit, isMisplaced, isUncertified}
+use Rattle.definitions.specs.Refusals.{faultWhere, isUnfit, isMisplaced, isUncertified, rowsFault}
+use Rattle.vectors.specs.Areas.{Lent, vectorsIn}
+use Rattle.reduction.specs.declared.Shape.{Shape}
+use Rattle.reduction.specs.Areas.{sequencesIn}
 
 -- 17: the first row that does not fit
 abbrev pub unfitFault : (table : List Exchange) (rows : List Vector) → Fault
@@ -31,6 +35,12 @@ uncertifiedAt generators rows coefficients r =
 abbrev pub uncertifiedFault : (generators rows : List Vector) (coefficients : List ℤ) → Fault
 uncertifiedFault generators rows coefficients =
     faultWhere 19 (length rows) (uncertifiedAt generators rows coefficients)
+
+-- 17 to 19 of the rows and coefficients that are lent, with a group's table
+abbrev pub rowsFaultIn : Shape → (generators rows coefficients : Lent ℤ) (table : Lent ℕ) → Fault
+rowsFaultIn shape generators rows coefficients table =
+    rowsFault (sequencesIn shape (now (table .entry)))
+    (vectorsIn (shape .n) generators) (vectorsIn (shape .n) rows) (now (coefficients .entry))
 
 -- the generators of an order: no entry is past its limit, and they are not too many
 pub record Bounded (n : ℕ) (generators : List ℤ) : Type 0 where

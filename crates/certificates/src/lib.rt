@@ -9,10 +9,10 @@ ghost use Rattle.definitions.specs.Limits.{cells, coefficientLimit};
 ghost use Rattle.definitions.specs.Lists.{any};
 ghost use Rattle.definitions.specs.Vector.{equal};
 ghost use Rattle.definitions.specs.Lattice.{combination};
-ghost use Rattle.definitions.specs.Lent.{vectorsOf};
-ghost use Rattle.definitions.specs.Refusals.{isPast, isUnfit, isMisplaced, isUncertified, rowsFault};
+ghost use Rattle.definitions.specs.Refusals.{isPast, isUnfit, isMisplaced, isUncertified};
+ghost use Rattle.vectors.specs.Areas.{vectorsIn};
 ghost use Rattle.reduction.specs.Areas.{sequencesIn, Table};
-ghost use Rattle.certificates.specs.Tests.{misplacedFault, uncertifiedFault, unfitFault};
+ghost use Rattle.certificates.specs.Tests.{misplacedFault, rowsFaultIn, uncertifiedFault, unfitFault};
 ghost use Rattle.certificates.specs.Tests.{Certifiable, Certificate};
 use definitions::Fault;
 use definitions::limits::CELLS;
@@ -44,10 +44,7 @@ fn is_unfit(row: [i32; CELLS], table: &[u8], shape: Shape) -> bool
 // Refusal 17: the first row that does not fit (Specification 7.2).
 fn unfit_fault(rows: &[i32], table: &[u8], shape: Shape) -> Fault
     requires shaped { ⌜ Table shape (now table) ⌝ }
-    ensures found { λ r. ⌜
-        (let sequences = sequencesIn shape (now (table .entry)) in
-        r ≡ unfitFault sequences (vectorsOf (shape .n) (now (rows .entry))))
-        ⌝ }
+    ensures found { λ r. ⌜ r ≡ unfitFault (sequencesIn shape (now (table .entry))) (vectorsIn (shape .n) rows) ⌝ }
 {
     let n = shape.n;
     let count = rows.len() / n;
@@ -67,7 +64,7 @@ fn unfit_fault(rows: &[i32], table: &[u8], shape: Shape) -> Fault
 // 18: whether row `p` does not come after the row before it (Specification 7.2).
 fn is_misplaced(rows: &[i32], n: usize, p: usize) -> bool
     requires row { ⌜ (n ≤ cells) × (p < length (now rows) / n) ⌝ }
-    ensures told { λ r. ⌜ r ≡ isMisplaced (vectorsOf n (now (rows .entry))) p ⌝ }
+    ensures told { λ r. ⌜ r ≡ isMisplaced (vectorsIn n rows) p ⌝ }
 {
     if p == 0 {
         return false;
@@ -80,7 +77,7 @@ fn is_misplaced(rows: &[i32], n: usize, p: usize) -> bool
 // Refusal 18: the first row that does not come after the row before it (Specification 7.2).
 fn misplaced_fault(rows: &[i32], n: usize) -> Fault
     requires cells { ⌜ (1 ≤ n) × (n ≤ cells) ⌝ }
-    ensures found { λ r. ⌜ r ≡ misplacedFault (vectorsOf n (now (rows .entry))) ⌝ }
+    ensures found { λ r. ⌜ r ≡ misplacedFault (vectorsIn n rows) ⌝ }
 {
     let count = rows.len() / n;
     let mut p = 0;
@@ -119,10 +116,7 @@ fn combined_cell(coefficients: &[i64], generators: &[i32], n: usize, j: usize) -
     requires cells { ⌜ (n ≤ cells) × (j < n) ⌝ }
     requires sizes { ⌜ Certificate n (now generators) (now coefficients) ⌝ }
     requires small { ⌜ any (isPast coefficientLimit) (now coefficients) ≡ false ⌝ }
-    ensures made { λ r. ⌜
-        (let gens = vectorsOf n (now (generators .entry)) in
-        r ≡ getD (combination (now (coefficients .entry)) gens) j (pos 0))
-        ⌝ }
+    ensures made { λ r. ⌜ r ≡ getD (combination (now (coefficients .entry)) (vectorsIn n generators)) j (pos 0) ⌝ }
 {
     let mut sum: i64 = 0;
     let mut q = 0;
@@ -139,10 +133,7 @@ fn combination(coefficients: &[i64], generators: &[i32], n: usize) -> [i64; CELL
     requires cells { ⌜ n ≤ cells ⌝ }
     requires sizes { ⌜ Certificate n (now generators) (now coefficients) ⌝ }
     requires small { ⌜ any (isPast coefficientLimit) (now coefficients) ≡ false ⌝ }
-    ensures made { λ r. ⌜
-        (let gens = vectorsOf n (now (generators .entry)) in
-        r ≡ combination (now (coefficients .entry)) gens)
-        ⌝ }
+    ensures made { λ r. ⌜ r ≡ combination (now (coefficients .entry)) (vectorsIn n generators) ⌝ }
 {
     let mut sum = [0; CELLS];
     let mut j = 0;
@@ -174,10 +165,7 @@ fn equals_row(sum: [i64; CELLS], row: [i32; CELLS]) -> bool
 fn is_uncertified(coefficients: &[i64], generators: &[i32], n: usize, row: [i32; CELLS]) -> bool
     requires cells { ⌜ n ≤ cells ⌝ }
     requires sizes { ⌜ Certificate n (now generators) (now coefficients) ⌝ }
-    ensures told { λ r. ⌜
-        (let gens = vectorsOf n (now (generators .entry)) in
-        r ≡ isUncertified gens (now (coefficients .entry)) row)
-        ⌝ }
+    ensures told { λ r. ⌜ r ≡ isUncertified (vectorsIn n generators) (now (coefficients .entry)) row ⌝ }
 {
     if has_past(coefficients) {
         return true;
@@ -191,8 +179,7 @@ fn uncertified_fault(generators: &[i32], rows: &[i32], coefficients: &[i64], n: 
     requires cells { ⌜ (1 ≤ n) × (n ≤ cells) ⌝ }
     requires sizes { ⌜ Certifiable n (now generators) (now rows) (now coefficients) ⌝ }
     ensures found { λ r. ⌜
-        (let gens = vectorsOf n (now (generators .entry)) in
-        r ≡ uncertifiedFault gens (vectorsOf n (now (rows .entry))) (now (coefficients .entry)))
+        r ≡ uncertifiedFault (vectorsIn n generators) (vectorsIn n rows) (now (coefficients .entry))
         ⌝ }
 {
     let count = rows.len() / n;
@@ -223,12 +210,7 @@ pub fn rows_fault(
 ) -> Fault
     requires shaped { ⌜ Table shape (now table) ⌝ }
     requires sizes { ⌜ Certifiable (shape .n) (now generators) (now rows) (now coefficients) ⌝ }
-    ensures found { λ r. ⌜
-        (let sequences = sequencesIn shape (now (table .entry)) in
-        let gens = vectorsOf (shape .n) (now (generators .entry)) in
-        let list = vectorsOf (shape .n) (now (rows .entry)) in
-        r ≡ rowsFault sequences gens list (now (coefficients .entry)))
-        ⌝ }
+    ensures found { λ r. ⌜ r ≡ rowsFaultIn shape generators rows coefficients table ⌝ }
 {
     let n = shape.n;
     let unfit = unfit_fault(rows, table, shape);

@@ -6,6 +6,7 @@ use mathlib.Core.List.{List}
 use Prim.Native.Nat.{ℕ, _/_, _≤_}
 use lib.IntN.{ℤ, pos, negsuc}
 use lib.ListN.{length, replicate}
+use denote.Ref.{now}
 use Rattle.definitions.specs.declared.Answer.{Answer}
 use Rattle.definitions.specs.declared.Answer.the-variants.{Passed}
 use Rattle.definitions.specs.Vector.{padded}
@@ -13,6 +14,7 @@ use Rattle.definitions.specs.Lattice.{InLattice}
 use Rattle.definitions.specs.Lent.{Order, exchangesOf, filled, generatorsOf, vectorsOf}
 use Rattle.definitions.specs.Calls.{ListEnd, SplitEnd, CheckEnd}
 use Rattle.definitions.specs.Demands.{RulesKept, Whole}
+use Rattle.vectors.specs.Areas.{Lent, sentOrder}
 use Rattle.moves.specs.Promise.{CheckPassed, ListAccepted, ListZero, PastEntries, SplitAccepted, SplitZero}
 use Rattle.answers.specs.Refusal.{refusalOf}
 use Rattle.lent.specs.Ends.{countsOf, lentCheck, lentList, lentSplit, resultOf}
@@ -46,6 +48,13 @@ pub record ListLent (order : Order) (result : ℤ) (list : List ℤ) (group coun
   pub accepted : (k : ℕ) → result ≡ pos k → ListGiven order result list group counts
   pub refused : (k : ℕ) → result ≡ negsuc k → ListZero list group × CountsZero counts
 
+-- .. of the order that is sent, in the areas that are lent
+abbrev pub KeepsLentList : (n : ℕ) (generators : Lent ℤ) (exchanges : Lent ℕ) (list : Lent ℤ) (group counts : Lent ℕ)
+    (result : ℤ) → Type 0
+KeepsLentList n generators exchanges list group counts result =
+    let order = sentOrder n generators exchanges in
+    ListLent order result (now (list .exit)) (now (group .exit)) (now (counts .exit))
+
 -- ---- Split
 
 -- the end that is due
@@ -77,6 +86,14 @@ pub record SplitLent (order : Order) (vector : List ℤ) (result : ℤ) (list : 
   pub exactly : PastEntries order vector (length list) (length group) (length pieces)
       → (result ≡ refusalOf 15 0) ↔ Outside order vector
 
+-- .. of the order and the vector that are sent, in the areas that are lent
+abbrev pub KeepsLentSplit : (n : ℕ) (generators : Lent ℤ) (exchanges : Lent ℕ) (vector list : Lent ℤ) (group : Lent ℕ)
+    (pieces : Lent ℤ) (counts : Lent ℕ) (result : ℤ) → Type 0
+KeepsLentSplit n generators exchanges vector list group pieces counts result =
+    let order = sentOrder n generators exchanges in
+    SplitLent order (now (vector .entry)) result
+    (now (list .exit)) (now (group .exit)) (now (pieces .exit)) (now (counts .exit))
+
 -- ---- Check
 
 -- the end that is due
@@ -103,3 +120,10 @@ pub record CheckLent (order : Order) (rows coefficients : List ℤ) (result : �
   pub accepted : (k : ℕ) → result ≡ pos k → CheckGiven order rows coefficients result group counts
   pub passes : (result ≡ pos (length rows / order .n)) ↔ MayPass order rows coefficients group counts
   pub refused : (k : ℕ) → result ≡ negsuc k → (group ≡ replicate (length group) 0) × CountsZero counts
+
+-- .. of the order and the list that are sent, in the areas that are lent
+abbrev pub KeepsLentCheck : (n : ℕ) (generators : Lent ℤ) (exchanges : Lent ℕ) (rows coefficients : Lent ℤ)
+    (group counts : Lent ℕ) (result : ℤ) → Type 0
+KeepsLentCheck n generators exchanges rows coefficients group counts result =
+    let order = sentOrder n generators exchanges in
+    CheckLent order (now (rows .entry)) (now (coefficients .entry)) result (now (group .exit)) (now (counts .exit))

@@ -2,9 +2,9 @@
 ghost use mathlib.Core.Path.{_≡_};
 ghost use Prim.Native.Nat.{_≤_, _<_, _^_};
 ghost use lib.ListN.{length, getD, take};
-ghost use Rattle.definitions.specs.Lent.{filled, orderOf};
+ghost use Rattle.definitions.specs.Lent.{filled};
 ghost use Rattle.lent.specs.Ends.{Gives, Reports, Small};
-ghost use Rattle.lent.specs.Promise.{CheckLent, ListLent, SplitLent};
+ghost use Rattle.lent.specs.Promise.{KeepsLentCheck, KeepsLentList, KeepsLentSplit};
 use answers::refusal;
 use definitions::Answer;
 use vectors::clear;
@@ -25,10 +25,7 @@ fn count_at(numbers: &[u64], k: usize, i: usize) -> u64
 fn lay_counts(area: &mut [u64], numbers: &[u64], k: usize)
     requires some { ⌜ k ≤ length (now numbers) ⌝ }
     requires room { ⌜ k ≤ length (now area) ⌝ }
-    ensures laid { λ _. ⌜
-        (let first = take k (now (numbers .entry)) in
-        now (area .exit) ≡ filled 0 (length (now (area .entry))) first)
-        ⌝ }
+    ensures laid { λ _. ⌜ now (area .exit) ≡ filled 0 (length (now (area .entry))) (take k (now (numbers .entry))) ⌝ }
 {
     let mut i = 0;
     while i < area.len() {
@@ -100,10 +97,7 @@ pub extern "C" fn sukoreta_lent_list(
     group: &mut [u8],
     counts: &mut [u64],
 ) -> i64
-    ensures kept { λ r. ⌜
-        (let order = orderOf n (now (generators .entry)) (now (exchanges .entry)) in
-        ListLent order r (now (list .exit)) (now (group .exit)) (now (counts .exit)))
-        ⌝ }
+    ensures kept { λ r. ⌜ KeepsLentList n generators exchanges list group counts r ⌝ }
 {
     let answer = moves::list(n, generators, exchanges, &mut *list, &mut *group);
     let result = report(counts, answer);
@@ -128,11 +122,7 @@ pub extern "C" fn sukoreta_lent_split(
     pieces: &mut [i32],
     counts: &mut [u64],
 ) -> i64
-    ensures kept { λ r. ⌜
-        (let order = orderOf n (now (generators .entry)) (now (exchanges .entry)) in
-        SplitLent order (now (vector .entry)) r
-        (now (list .exit)) (now (group .exit)) (now (pieces .exit)) (now (counts .exit)))
-        ⌝ }
+    ensures kept { λ r. ⌜ KeepsLentSplit n generators exchanges vector list group pieces counts r ⌝ }
 {
     let answer = moves::split(
         n,
@@ -165,10 +155,7 @@ pub extern "C" fn sukoreta_lent_check(
     group: &mut [u8],
     counts: &mut [u64],
 ) -> i64
-    ensures kept { λ r. ⌜
-        (let order = orderOf n (now (generators .entry)) (now (exchanges .entry)) in
-        CheckLent order (now (rows .entry)) (now (coefficients .entry)) r (now (group .exit)) (now (counts .exit)))
-        ⌝ }
+    ensures kept { λ r. ⌜ KeepsLentCheck n generators exchanges rows coefficients group counts r ⌝ }
 {
     let answer = moves::check(n, generators, exchanges, rows, coefficients, &mut *group);
     let result = report(counts, answer);

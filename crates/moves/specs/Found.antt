@@ -6,6 +6,7 @@ use Prim.Native.Nat.{ℕ, _*_, _/_, _<_, _≤_}
 use lib.Dec.{leb}
 use lib.IntN.{ℤ, pos}
 use lib.ListN.{length, getD}
+use denote.Ref.{now}
 use Rattle.definitions.specs.declared.Answer.{Answer}
 use Rattle.definitions.specs.declared.Fault.{Fault}
 use Rattle.definitions.specs.declared.Fault.the-variants.{None, At}
@@ -14,10 +15,11 @@ use Rattle.definitions.specs.Lists.{concat}
 use Rattle.definitions.specs.Vector.{Vector, isZero, within}
 use Rattle.definitions.specs.Group.{Exchange}
 use Rattle.definitions.specs.Completion.{completed, sumCount}
-use Rattle.definitions.specs.Lent.{filled, vectorsOf, numbersOf, listRows, wholeRows}
+use Rattle.definitions.specs.Lent.{filled, vectorsOf, numbersOf, listRows, tableOf, wholeRows}
 use Rattle.definitions.specs.Refusals.{Outcome, accepted, refused, firstFault, faultIf, faultWhere, isPast}
 use Rattle.definitions.specs.Refusals.{rowsFault, wholenessFault}
-use Rattle.definitions.specs.Calls.{Listing, SplitEnd, listingOf}
+use Rattle.definitions.specs.Calls.{Listing, Parts, SplitEnd, checkFault, listingOf, partsOf, splitEnd}
+use Rattle.vectors.specs.Areas.{Lent, sentOrder}
 use Rattle.reduction.specs.declared.Shape.{Shape}
 use Rattle.reduction.specs.Areas.{rowsAt, sequencesIn, Area, Table}
 use Rattle.completion.specs.Machine.{Admissible}
@@ -53,6 +55,21 @@ pub record Finds (n listSize groupSize : ℕ) (o : Outcome Listing) (list : List
   pub listHolds : (found : Listing) → o ≡ accepted found → list ≡ filled (pos 0) listSize (numbersOf n (found .rows))
   pub groupHolds : (found : Listing) → o ≡ accepted found → group ≡ filled 0 groupSize (concat (found .table))
 
+-- .. in lent areas: what is due for their sizes
+abbrev pub FindsIn : (n : ℕ) (due : (listSize groupSize : ℕ) → Outcome Listing) (list : Lent ℤ) (group : Lent ℕ)
+    (r : Listed) → Type 0
+FindsIn n due list group r =
+    let listSize = length (now (list .entry)) in
+    let groupSize = length (now (group .entry)) in
+    Finds n listSize groupSize (due listSize groupSize) (now (list .exit)) (now (group .exit)) r
+
+-- what is listed with the table in the group area was found
+abbrev pub Completes : Shape → (generators list : Lent ℤ) (group : Lent ℕ) (r : Listed) → Type 0
+Completes shape generators list group r =
+    let table = sequencesIn shape (now (group .entry)) in
+    FindsIn (shape .n) (λ listSize groupSize. listingWith (shape .n) listSize table (now (generators .entry)))
+    list group r
+
 -- ---- Split
 
 -- list and group areas that hold a list and a table of these numbers, with zeros behind
@@ -73,6 +90,12 @@ listingIn n found list group = record {
   sums = found .sums;
 }
 
+-- 14 to 16 of a vector, with such areas and a pieces area
+abbrev pub partsIn : (n : ℕ) → Numbers → (vector list : Lent ℤ) (group : Lent ℕ) (pieces : Lent ℤ) → Outcome Parts
+partsIn n found vector list group pieces =
+    let listed = listingIn n found (now (list .entry)) (now (group .entry)) in
+    partsOf (now (vector .entry)) (length (now (pieces .entry))) (accepted listed)
+
 -- a vector of n numbers that meets no 14
 pub record Entered (n : ℕ) (vector : List ℤ) : Type 0 where
   pub sized : length vector ≡ n
@@ -91,6 +114,13 @@ pub record SplitEnds (due : SplitEnd) (answer : Answer) (list : List ℤ) (group
   pub groupHolds : group ≡ due .group
   pub piecesHolds : pieces ≡ due .pieces
 
+-- .. in lent areas, as this outcome ends
+abbrev pub SplitEndsIn : (n : ℕ) → Outcome Parts → (list : Lent ℤ) (group : Lent ℕ) (pieces : Lent ℤ)
+    (answer : Answer) → Type 0
+SplitEndsIn n outcome list group pieces answer =
+    let due = splitEnd n (length (now (list .entry))) (length (now (group .entry))) (length (now (pieces .entry))) in
+    SplitEnds (due outcome) answer (now (list .exit)) (now (group .exit)) (now (pieces .exit))
+
 -- ---- Check
 
 -- a pass of so many rows by a group of g members, unless a test was met
@@ -106,6 +136,12 @@ broughtFault n table generators rows coefficients =
     ∷ wholenessFault table (vectorsOf n generators) (vectorsOf n rows)
     ∷ [])
 
+-- .. of lent areas
+abbrev pub broughtFaultIn : Shape → (generators rows coefficients : Lent ℤ) (group : Lent ℕ) → Fault
+broughtFaultIn shape generators rows coefficients group =
+    broughtFault (shape .n) (sequencesIn shape (now (group .entry)))
+    (now (generators .entry)) (now (rows .entry)) (now (coefficients .entry))
+
 -- generators within the limit, and brought rows and coefficients in the right numbers
 pub record Sized (n : ℕ) (generators rows coefficients : List ℤ) : Type 0 where
   pub limited : within entryLimit generators ≡ true
@@ -118,3 +154,12 @@ pub record Sized (n : ℕ) (generators rows coefficients : List ℤ) : Type 0 wh
 pub record Checks (rows size : ℕ) (table : List Exchange) (fault : Fault) (group : List ℕ) (r : Checked) : Type 0 where
   pub answer : r ≡ checkedOf rows (length table) fault
   pub held : fault ≡ None → group ≡ filled 0 size (concat table)
+
+-- .. the tests 5 to 22 of a Check
+abbrev pub ChecksIn : (n : ℕ) (generators : Lent ℤ) (exchanges : Lent ℕ) (rows coefficients : Lent ℤ)
+    (group : Lent ℕ) (r : Checked) → Type 0
+ChecksIn n generators exchanges rows coefficients group r =
+    let order = sentOrder n generators exchanges in
+    let size = length (now (group .entry)) in
+    let fault = checkFault order (now (rows .entry)) (now (coefficients .entry)) size in
+    Checks (length (now (rows .entry)) / n) size (tableOf order size) fault (now (group .exit)) r

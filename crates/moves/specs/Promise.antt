@@ -5,6 +5,7 @@ use mathlib.Core.List.{List, [], _∷_, map}
 use Prim.Native.Nat.{ℕ}
 use lib.IntN.{ℤ, pos}
 use lib.ListN.{length, getD, replicate}
+use denote.Ref.{now}
 use Rattle.definitions.specs.declared.Answer.{Answer}
 use Rattle.definitions.specs.declared.Answer.the-variants.{Moves, Split, Passed, Refused}
 use Rattle.definitions.specs.declared.Fault.the-variants.{None}
@@ -18,10 +19,11 @@ use Rattle.definitions.specs.Lent.{Order, exchangesOf, filled, generatorsOf, nu
 use Rattle.definitions.specs.Refusals.{accepted, cellsFault, faultWhere, firstFault, isPast, splitSizeFault}
 use Rattle.definitions.specs.Calls.{Listing, Parts, listing, listCall, splitCall, checkCall}
 use Rattle.definitions.specs.Demands.{ConformalSum, IsTable, ListKept, RulesKept, SplitKept, Whole}
+use Rattle.vectors.specs.Areas.{Lent, sentOrder}
 
 -- ---- List
 
--- demand 2: the list area holds a whole list, in order, and the group area the table of the group
+-- demand 2: the list area holds a whole list, sorted, and the group area the table of the group
 pub record ListAccepted (order : Order) (answer : Answer) (list : List ℤ) (group : List ℕ) : Type 0 where
   pub found : Listing
   pub kept : ListKept order found
@@ -42,6 +44,14 @@ pub record ListPromise (order : Order) (listSize groupSize : ℕ) (answer : Answ
   pub groupHolds : group ≡ listCall order listSize groupSize .group
   pub accepted : (rows g stored sums : ℕ) → answer ≡ Moves rows g stored sums → ListAccepted order answer list group
   pub refused : (number place : ℕ) → answer ≡ Refused number place → ListZero list group
+
+-- .. of the order that is sent, in the areas that are lent
+abbrev pub KeepsList : (n : ℕ) (generators : Lent ℤ) (exchanges : Lent ℕ) (list : Lent ℤ) (group : Lent ℕ)
+    (answer : Answer) → Type 0
+KeepsList n generators exchanges list group answer =
+    let order = sentOrder n generators exchanges in
+    ListPromise order (length (now (list .entry))) (length (now (group .entry))) answer
+    (now (list .exit)) (now (group .exit))
 
 -- ---- Split
 
@@ -88,6 +98,15 @@ pub record SplitPromise (order : Order) (vector : List ℤ) (listSize groupSize 
   pub exactly : PastEntries order vector listSize groupSize piecesSize
       → (answer ≡ Refused 15 0) ↔ (¬ (InLattice (generatorsOf order) (padded vector)))
 
+-- .. of the order and the vector that are sent, in the areas that are lent
+abbrev pub KeepsSplit : (n : ℕ) (generators : Lent ℤ) (exchanges : Lent ℕ) (vector list : Lent ℤ) (group : Lent ℕ)
+    (pieces : Lent ℤ) (answer : Answer) → Type 0
+KeepsSplit n generators exchanges vector list group pieces answer =
+    let order = sentOrder n generators exchanges in
+    SplitPromise order (now (vector .entry))
+    (length (now (list .entry))) (length (now (group .entry))) (length (now (pieces .entry))) answer
+    (now (list .exit)) (now (group .exit)) (now (pieces .exit))
+
 -- ---- Check
 
 -- the brought list is whole
@@ -123,3 +142,11 @@ pub record CheckPromise (order : Order) (rows coefficients : List ℤ) (groupSiz
   pub passed : (count sums : ℕ) → answer ≡ Passed count sums
       → CheckPassed order rows coefficients groupSize group count sums
   pub refused : (number place : ℕ) → answer ≡ Refused number place → group ≡ replicate (length group) 0
+
+-- .. of the order and the list that are sent, in the group area that is lent
+abbrev pub KeepsCheck : (n : ℕ) (generators : Lent ℤ) (exchanges : Lent ℕ) (rows coefficients : Lent ℤ)
+    (group : Lent ℕ) (answer : Answer) → Type 0
+KeepsCheck n generators exchanges rows coefficients group answer =
+    let order = sentOrder n generators exchanges in
+    CheckPromise order (now (rows .entry)) (now (coefficients .entry)) (length (now (group .entry))) answer
+    (now (group .exit))

@@ -1,17 +1,16 @@
 // The lent calls (Specification 1.1): List, Split and Check.
 ghost use mathlib.Core.Path.{_≡_};
 ghost use mathlib.Core.List.{[], _∷_};
-ghost use Prim.Native.Nat.{_/_, _≤_};
+ghost use Prim.Native.Nat.{_≤_};
 ghost use lib.ListN.{length};
 ghost use Rattle.definitions.specs.Limits.{groupLimit, listLimit};
-ghost use Rattle.definitions.specs.Lent.{orderOf, tableOf};
-ghost use Rattle.definitions.specs.Refusals.{accepted, cellsFault, firstFault, refused, splitSizeFault};
-ghost use Rattle.definitions.specs.Calls.{checkFault, listing, partsOf, splitEnd};
-ghost use Rattle.reduction.specs.Areas.{sequencesIn};
-ghost use Rattle.moves.specs.Promise.{ListPromise, SplitPromise, CheckPromise};
-ghost use Rattle.moves.specs.Found.{Finds, Grouped, listingWith};
-ghost use Rattle.moves.specs.Found.{Entered, Held, SplitEnds, listingIn, piecesFault};
-ghost use Rattle.moves.specs.Found.{Checks, Sized, broughtFault, checkedOf};
+ghost use Rattle.definitions.specs.Refusals.{cellsFault, firstFault, refused, splitSizeFault};
+ghost use Rattle.definitions.specs.Calls.{listing};
+ghost use Rattle.vectors.specs.Areas.{sentOrder};
+ghost use Rattle.moves.specs.Promise.{KeepsList, KeepsSplit, KeepsCheck};
+ghost use Rattle.moves.specs.Found.{Completes, FindsIn, Grouped};
+ghost use Rattle.moves.specs.Found.{Entered, Held, SplitEndsIn, partsIn, piecesFault};
+ghost use Rattle.moves.specs.Found.{ChecksIn, Sized, broughtFaultIn, checkedOf};
 use admission::Admission;
 use admission::admit;
 use admission::rows_up_to;
@@ -63,12 +62,7 @@ enum Checked {
 // Steps 1 to 5 with the table of a group in its area (Specification 3).
 fn complete_list(generators: &[i32], list: &mut [i32], group: &[u8], shape: Shape) -> Listed
     requires grouped { ⌜ Grouped shape (now generators) (now group) ⌝ }
-    ensures found { λ r. ⌜
-        (let table = now (group .entry) in
-        let size = length (now (list .entry)) in
-        let due = listingWith (shape .n) size (sequencesIn shape table) (now (generators .entry)) in
-        Finds (shape .n) size (length table) due (now (list .exit)) table r)
-        ⌝ }
+    ensures found { λ r. ⌜ Completes shape generators list group r ⌝ }
 {
     clear(&mut *list, 0);
     let mut marks = [0u8; MARKS];
@@ -97,12 +91,7 @@ fn make_list(
     list: &mut [i32],
     group: &mut [u8],
 ) -> Listed
-    ensures found { λ r. ⌜
-        (let order = orderOf n (now (generators .entry)) (now (exchanges .entry)) in
-        let listSize = length (now (list .entry)) in
-        let groupSize = length (now (group .entry)) in
-        Finds n listSize groupSize (listing order listSize groupSize) (now (list .exit)) (now (group .exit)) r)
-        ⌝ }
+    ensures found { λ r. ⌜ FindsIn n (listing (sentOrder n generators exchanges)) list group r ⌝ }
 {
     let fits = refusals::whole_rows(n, list.len());
     let admission = admit(n, generators, exchanges, fits, &mut *group);
@@ -121,12 +110,7 @@ pub fn list(
     list: &mut [i32],
     group: &mut [u8],
 ) -> Answer
-    ensures kept { λ r. ⌜
-        (let order = orderOf n (now (generators .entry)) (now (exchanges .entry)) in
-        let listSize = length (now (list .entry)) in
-        let groupSize = length (now (group .entry)) in
-        ListPromise order listSize groupSize r (now (list .exit)) (now (group .exit)))
-        ⌝ }
+    ensures kept { λ r. ⌜ KeepsList n generators exchanges list group r ⌝ }
 {
     let found = make_list(n, generators, exchanges, &mut *list, &mut *group);
     match found {
@@ -168,12 +152,7 @@ fn refuse_split(
     group: &mut [u8],
     pieces: &mut [i32],
 ) -> Answer
-    ensures zeros { λ r. ⌜
-        (let listSize = length (now (basis .entry)) in
-        let groupSize = length (now (group .entry)) in
-        let due = splitEnd 0 listSize groupSize (length (now (pieces .entry))) (refused number place) in
-        SplitEnds due r (now (basis .exit)) (now (group .exit)) (now (pieces .exit)))
-        ⌝ }
+    ensures zeros { λ r. ⌜ SplitEndsIn 0 (refused number place) basis group pieces r ⌝ }
 {
     clear(&mut *basis, 0);
     clear_bytes(&mut *group, 0);
@@ -202,13 +181,7 @@ fn take_pieces(
 ) -> Answer
     requires held { ⌜ Held n found (now basis) (now group) ⌝ }
     requires entered { ⌜ Entered n (now vector) ⌝ }
-    ensures ended { λ r. ⌜
-        (let listed = listingIn n found (now (basis .entry)) (now (group .entry)) in
-        let size = length (now (pieces .entry)) in
-        let due = partsOf (now (vector .entry)) size (accepted listed) in
-        let ends = splitEnd n (length (now (basis .entry))) (length (now (group .entry))) size due in
-        SplitEnds ends r (now (basis .exit)) (now (group .exit)) (now (pieces .exit)))
-        ⌝ }
+    ensures ended { λ r. ⌜ SplitEndsIn n (partsIn n found vector basis group pieces) basis group pieces r ⌝ }
 {
     let v = vectors::load(vector, 0, n);
     let k = found.rows as usize;
@@ -242,13 +215,7 @@ fn split_listed(
 ) -> Answer
     requires held { ⌜ Held n found (now basis) (now group) ⌝ }
     requires sized { ⌜ length (now vector) ≡ n ⌝ }
-    ensures ended { λ r. ⌜
-        (let listed = listingIn n found (now (basis .entry)) (now (group .entry)) in
-        let size = length (now (pieces .entry)) in
-        let due = partsOf (now (vector .entry)) size (accepted listed) in
-        let ends = splitEnd n (length (now (basis .entry))) (length (now (group .entry))) size due in
-        SplitEnds ends r (now (basis .exit)) (now (group .exit)) (now (pieces .exit)))
-        ⌝ }
+    ensures ended { λ r. ⌜ SplitEndsIn n (partsIn n found vector basis group pieces) basis group pieces r ⌝ }
 {
     let fault = refusals::past_fault(vector, 14, SPLIT_LIMIT);
     match fault {
@@ -270,14 +237,7 @@ pub fn split(
     group: &mut [u8],
     pieces: &mut [i32],
 ) -> Answer
-    ensures kept { λ r. ⌜
-        (let order = orderOf n (now (generators .entry)) (now (exchanges .entry)) in
-        let listSize = length (now (basis .entry)) in
-        let groupSize = length (now (group .entry)) in
-        let piecesSize = length (now (pieces .entry)) in
-        SplitPromise order (now (vector .entry)) listSize groupSize piecesSize r
-        (now (basis .exit)) (now (group .exit)) (now (pieces .exit)))
-        ⌝ }
+    ensures kept { λ r. ⌜ KeepsSplit n generators exchanges vector basis group pieces r ⌝ }
 {
     let fault = split_sizes(n, vector, pieces.len());
     if let Fault::At { number, place } = fault {
@@ -315,11 +275,7 @@ fn brought_fault(
 ) -> Fault
     requires grouped { ⌜ Grouped shape (now generators) (now group) ⌝ }
     requires sized { ⌜ Sized (shape .n) (now generators) (now rows) (now coefficients) ⌝ }
-    ensures met { λ r. ⌜
-        (let table = sequencesIn shape (now (group .entry)) in
-        let vectors = now (generators .entry) in
-        r ≡ broughtFault (shape .n) table vectors (now (rows .entry)) (now (coefficients .entry)))
-        ⌝ }
+    ensures met { λ r. ⌜ r ≡ broughtFaultIn shape generators rows coefficients group ⌝ }
 {
     let fault = certificates::rows_fault(generators, rows, coefficients, group, shape);
     match fault {
@@ -354,12 +310,7 @@ fn check_list(
     coefficients: &[i64],
     group: &mut [u8],
 ) -> Checked
-    ensures checked { λ r. ⌜
-        (let order = orderOf n (now (generators .entry)) (now (exchanges .entry)) in
-        let size = length (now (group .entry)) in
-        let fault = checkFault order (now (rows .entry)) (now (coefficients .entry)) size in
-        Checks (length (now (rows .entry)) / n) size (tableOf order size) fault (now (group .exit)) r)
-        ⌝ }
+    ensures checked { λ r. ⌜ ChecksIn n generators exchanges rows coefficients group r ⌝ }
 {
     let fits = refusals::brought_fits(n, generators, rows.len(), coefficients.len());
     let admission = admit(n, generators, exchanges, fits, &mut *group);
@@ -382,11 +333,7 @@ pub fn check(
     coefficients: &[i64],
     group: &mut [u8],
 ) -> Answer
-    ensures kept { λ r. ⌜
-        (let order = orderOf n (now (generators .entry)) (now (exchanges .entry)) in
-        let size = length (now (group .entry)) in
-        CheckPromise order (now (rows .entry)) (now (coefficients .entry)) size r (now (group .exit)))
-        ⌝ }
+    ensures kept { λ r. ⌜ KeepsCheck n generators exchanges rows coefficients group r ⌝ }
 {
     let found = check_list(n, generators, exchanges, rows, coefficients, &mut *group);
     match found {

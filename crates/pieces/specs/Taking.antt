@@ -7,12 +7,14 @@ use lib.Dec.{ltb}
 use lib.IntN.{ℤ, pos}
 use lib.ListN.{length}
 use lib.Seq.{paste}
+use denote.Ref.{now}
 use Rattle.definitions.specs.Limits.{cells, groupLimit, listLimit, pieceWidth, splitLimit}
 use Rattle.definitions.specs.Lists.{concat}
 use Rattle.definitions.specs.Vector.{Vector, negative, scale, within}
 use Rattle.definitions.specs.Split.{Image, Piece, placedOrbits, sign, splitting, times, written}
 use Rattle.definitions.specs.Lent.{filled}
 use Rattle.theory.proofs.Below.{_⊑_}
+use Rattle.vectors.specs.Areas.{Lent}
 use Rattle.reduction.specs.declared.Shape.{Shape}
 use Rattle.reduction.specs.Areas.{Area, Table, rowsAt, sequencesIn}
 use Rattle.pieces.specs.declared.Place.{Place}
@@ -84,6 +86,10 @@ pub record Takes (images : List Image) (t : Taken) (area area′ : List ℤ) (r 
   pub lies : area′ ≡ laid area (t .count) (splitting images (t .rest) .pieces)
   pub lower : r .rest ⊑ t .rest
 
+-- .. written to a lent area
+abbrev pub TakesTo : (pieces : Lent ℤ) (images : List Image) (t r : Taken) → Type 0
+TakesTo pieces images t r = Takes images t (now (pieces .entry)) (now (pieces .exit)) r
+
 -- 4.1: all images were taken from v, and the cleared area holds the pieces as far as it has room; where it has room
 -- for all, zeros stand behind
 pub record Splits (images : List Image) (v : Vector) (size : ℕ) (area : List ℤ) (r : Taken) : Type 0 where
@@ -92,3 +98,7 @@ pub record Splits (images : List Image) (v : Vector) (size : ℕ) (area : List �
   pub lies : area ≡ laid (filled (pos 0) size []) 0 (splitting images v .pieces)
   pub held : r .count ≤ size / pieceWidth
       → area ≡ filled (pos 0) size (concat (map written (splitting images v .pieces)))
+
+-- .. in a lent area
+abbrev pub SplitsTo : (pieces : Lent ℤ) (images : List Image) (v : Vector) (r : Taken) → Type 0
+SplitsTo pieces images v r = Splits images v (length (now (pieces .entry))) (now (pieces .exit)) r

@@ -5,7 +5,6 @@ ghost use mathlib.Core.Bool.{true};
 ghost use mathlib.Core.List.{[], _∷_};
 ghost use Prim.Native.Nat.{_*_, _≤_, _<_};
 ghost use lib.IntN.{pos};
-ghost use lib.ListN.{length};
 ghost use Rattle.definitions.specs.Limits.{groupLimit, listLimit, splitLimit};
 ghost use Rattle.definitions.specs.Vector.{minus, scale, within};
 ghost use Rattle.definitions.specs.Split.{placedOrbit, sign};
@@ -13,7 +12,7 @@ ghost use Rattle.theory.proofs.Below.{_⊑_};
 ghost use Rattle.vectors.specs.Bounds.{headroom};
 ghost use Rattle.reduction.specs.Areas.{sequencesIn, Table};
 ghost use Rattle.pieces.specs.Taking.{countLimit, fourNumbers, imageAt, imagesIn, pair, withNumbers};
-ghost use Rattle.pieces.specs.Taking.{Listed, Most, Placed, Ready, Splits, Takes};
+ghost use Rattle.pieces.specs.Taking.{Listed, Most, Placed, Ready, SplitsTo, TakesTo};
 use definitions::limits::CELLS;
 use definitions::limits::PIECE_WIDTH;
 use reduction::Shape;
@@ -72,8 +71,7 @@ fn write_piece(pieces: &mut [i32], k: usize, place: Place, positive: bool, count
     requires placed { ⌜ Placed place ⌝ }
     requires few { ⌜ count ≤ countLimit ⌝ }
     ensures written { λ _. ⌜
-        (let numbers = fourNumbers place positive count in
-        now (pieces .exit) ≡ withNumbers (now (pieces .entry)) k numbers)
+        now (pieces .exit) ≡ withNumbers (now (pieces .entry)) k (fourNumbers place positive count)
         ⌝ }
 {
     if k < pieces.len() / PIECE_WIDTH {
@@ -96,10 +94,7 @@ fn take_image(
 ) -> Taken
     requires ready { ⌜ Ready 1 t ⌝ }
     requires placed { ⌜ Placed place ⌝ }
-    ensures taken { λ r. ⌜
-        (let images = imageAt place positive image ∷ [] in
-        Takes images t (now (pieces .entry)) (now (pieces .exit)) r)
-        ⌝ }
+    ensures taken { λ r. ⌜ TakesTo pieces (imageAt place positive image ∷ []) t r ⌝ }
 {
     let rest = t.rest;
     let found = t.count;
@@ -121,7 +116,7 @@ fn take_both(t: Taken, image: [i32; CELLS], place: Place, pieces: &mut [i32]) ->
     requires ready { ⌜ Ready 2 t ⌝ }
     requires placed { ⌜ Placed place ⌝ }
     requires limited { ⌜ within headroom image ≡ true ⌝ }
-    ensures taken { λ r. ⌜ Takes (pair place image) t (now (pieces .entry)) (now (pieces .exit)) r ⌝ }
+    ensures taken { λ r. ⌜ TakesTo pieces (pair place image) t r ⌝ }
 {
     let once = take_image(t, image, place, true, pieces);
     take_image(once, negative(image), place, false, pieces)
@@ -140,10 +135,7 @@ fn take_row(
     requires ready { ⌜ Ready (2 * shape .g) t ⌝ }
     requires placed { ⌜ (row < listLimit) × (shape .g ≤ groupLimit) ⌝ }
     requires limited { ⌜ within headroom v ≡ true ⌝ }
-    ensures taken { λ r. ⌜
-        (let images = placedOrbit row 0 (sequencesIn shape (now (table .entry))) v in
-        Takes images t (now (pieces .entry)) (now (pieces .exit)) r)
-        ⌝ }
+    ensures taken { λ r. ⌜ TakesTo pieces (placedOrbit row 0 (sequencesIn shape (now (table .entry))) v) t r ⌝ }
 {
     let mut taken = t;
     let mut p = 0;
@@ -168,10 +160,7 @@ fn take_rows(
 ) -> Taken
     requires listed { ⌜ Listed shape k (now table) (now list) ⌝ }
     requires ready { ⌜ Ready (k * (2 * shape .g)) t ⌝ }
-    ensures taken { λ r. ⌜
-        (let images = imagesIn shape k (now (table .entry)) (now (list .entry)) in
-        Takes images t (now (pieces .entry)) (now (pieces .exit)) r)
-        ⌝ }
+    ensures taken { λ r. ⌜ TakesTo pieces (imagesIn shape k (now (table .entry)) (now (list .entry))) t r ⌝ }
 {
     let n = shape.n;
     let mut taken = t;
@@ -197,10 +186,7 @@ pub fn split_rows(
 ) -> Taken
     requires listed { ⌜ Listed shape k (now table) (now list) ⌝ }
     requires limited { ⌜ within splitLimit v ≡ true ⌝ }
-    ensures split { λ r. ⌜
-        (let images = imagesIn shape k (now (table .entry)) (now (list .entry)) in
-        Splits images v (length (now (pieces .entry))) (now (pieces .exit)) r)
-        ⌝ }
+    ensures split { λ r. ⌜ SplitsTo pieces (imagesIn shape k (now (table .entry)) (now (list .entry))) v r ⌝ }
 {
     clear(pieces, 0);
     let whole = Taken { rest: v, count: 0 };

@@ -3,3 +3,4 @@ pub mod Lent
 pub mod Marking
 pub mod Passes
 pub mod Positions
+pub mod Searches

@@ -272,7 +272,7 @@ fn s14() {
     list(b"14\n", 9, &generators, b"");
 }
 
-// Every sample, in the order of the table.
+// Every sample, line by line of the table.
 fn main() {
     p1();
     p2();

@@ -1,16 +1,17 @@
 // The services on order files (Specification 1.2 and 1.3): C calls, and what the programs print.
 ghost use mathlib.Core.Path.{_≡_};
 ghost use Prim.Native.Nat.{_*_, _≤_, _<_, _^_};
-ghost use lib.ListN.{length, take};
+ghost use lib.ListN.{length};
 ghost use Rattle.definitions.specs.Limits.{cells, listLimit, pieceWidth};
 ghost use Rattle.orders.specs.Scan.{scanOf};
 ghost use Rattle.answers.specs.Answers.{lineCount, rowsText};
 ghost use Rattle.answers.specs.Lengths.{textLimit};
 ghost use Rattle.answers.specs.Refusal.{refusalCode};
-ghost use Rattle.promises.specs.Services.{endBy, piecesSize, refusedEnd, served, servedBy, textEnd};
+ghost use Rattle.promises.specs.Services.{endBy, piecesSize, refusedEnd, served, textEnd};
 ghost use Rattle.promises.specs.Promise.{CheckCalled, CheckPrinted, ListCalled, ListPrinted};
-ghost use Rattle.promises.specs.Promise.{ForInput, SplitCalled, SplitPrinted};
-ghost use Rattle.services.specs.Answered.{Counted, Ends, OrderFits, OrderRead, Serves, Small, TextIn};
+ghost use Rattle.promises.specs.Promise.{SplitCalled, SplitPrinted};
+ghost use Rattle.services.specs.Answered.{OrderFits, OrderRead, Serves, servedIn};
+ghost use Rattle.services.specs.Answered.{Counted, EndsIn, PrintedFor, PrintsIn, Small};
 use answers::lengths::TEXT_LIMIT;
 use definitions::Answer;
 use definitions::limits::CELLS;
@@ -76,10 +77,7 @@ fn list_order(
     requires accepted { ⌜ scanOf Service.List (now order) ≡ Scanned.Counted c ⌝ }
     requires read { ⌜ OrderRead (now order) c (now generators) (now exchanges) ⌝ }
     requires room { ⌜ listLimit * cells ≤ length (now list) ⌝ }
-    ensures served { λ r. ⌜
-        (let due = servedBy Service.List (now (order .entry)) (Scanned.Counted c) in
-        Serves due r (c .cells) (now (list .exit)))
-        ⌝ }
+    ensures served { λ r. ⌜ Serves (servedIn Service.List (now (order .entry)) c) r (c .cells) (now (list .exit)) ⌝ }
 {
     let mut group = [0u8; GROUP_NUMBERS];
     let n = c.cells;
@@ -100,10 +98,7 @@ fn list_order(
 fn list_file(order: &[u8], c: Counts, list: &mut [i32]) -> Answer
     requires accepted { ⌜ scanOf Service.List (now order) ≡ Scanned.Counted c ⌝ }
     requires room { ⌜ listLimit * cells ≤ length (now list) ⌝ }
-    ensures served { λ r. ⌜
-        (let due = servedBy Service.List (now (order .entry)) (Scanned.Counted c) in
-        Serves due r (c .cells) (now (list .exit)))
-        ⌝ }
+    ensures served { λ r. ⌜ Serves (servedIn Service.List (now (order .entry)) c) r (c .cells) (now (list .exit)) ⌝ }
 {
     let mut generators = [0i32; GENERATOR_NUMBERS];
     let mut exchanges = [0u8; EXCHANGE_NUMBERS];
@@ -123,8 +118,7 @@ fn split_order(
     requires read { ⌜ OrderRead (now order) c (now generators) (now exchanges) ⌝ }
     requires room { ⌜ length (now pieces) ≡ piecesSize ⌝ }
     ensures served { λ r. ⌜
-        (let due = servedBy Service.Split (now (order .entry)) (Scanned.Counted c) in
-        Serves due r pieceWidth (now (pieces .exit)))
+        Serves (servedIn Service.Split (now (order .entry)) c) r pieceWidth (now (pieces .exit))
         ⌝ }
 {
     let mut vector = [0i32; CELLS];
@@ -152,8 +146,7 @@ fn split_file(order: &[u8], c: Counts, pieces: &mut [i32]) -> Answer
     requires accepted { ⌜ scanOf Service.Split (now order) ≡ Scanned.Counted c ⌝ }
     requires room { ⌜ length (now pieces) ≡ piecesSize ⌝ }
     ensures served { λ r. ⌜
-        (let due = servedBy Service.Split (now (order .entry)) (Scanned.Counted c) in
-        Serves due r pieceWidth (now (pieces .exit)))
+        Serves (servedIn Service.Split (now (order .entry)) c) r pieceWidth (now (pieces .exit))
         ⌝ }
 {
     let mut generators = [0i32; GENERATOR_NUMBERS];
@@ -166,7 +159,7 @@ fn split_file(order: &[u8], c: Counts, pieces: &mut [i32]) -> Answer
 fn check_order(order: &[u8], c: Counts, generators: &[i32], exchanges: &[u8]) -> Answer
     requires accepted { ⌜ scanOf Service.Check (now order) ≡ Scanned.Counted c ⌝ }
     requires read { ⌜ OrderRead (now order) c (now generators) (now exchanges) ⌝ }
-    ensures served { λ r. ⌜ r ≡ servedBy Service.Check (now (order .entry)) (Scanned.Counted c) .answer ⌝ }
+    ensures served { λ r. ⌜ r ≡ servedIn Service.Check (now (order .entry)) c .answer ⌝ }
 {
     let mut rows = [0i32; LIST_NUMBERS];
     let mut coefficients = [0i64; COEFFICIENT_NUMBERS];
@@ -192,7 +185,7 @@ fn check_order(order: &[u8], c: Counts, generators: &[i32], exchanges: &[u8]) ->
 // Check on an accepted file: its answer (Specification 1.2).
 fn check_file(order: &[u8], c: Counts) -> Answer
     requires accepted { ⌜ scanOf Service.Check (now order) ≡ Scanned.Counted c ⌝ }
-    ensures served { λ r. ⌜ r ≡ servedBy Service.Check (now (order .entry)) (Scanned.Counted c) .answer ⌝ }
+    ensures served { λ r. ⌜ r ≡ servedIn Service.Check (now (order .entry)) c .answer ⌝ }
 {
     let mut generators = [0i32; GENERATOR_NUMBERS];
     let mut exchanges = [0u8; EXCHANGE_NUMBERS];
@@ -204,8 +197,7 @@ fn check_file(order: &[u8], c: Counts) -> Answer
 fn serve_list(order: &[u8], list: &mut [i32]) -> Reply
     requires room { ⌜ listLimit * cells ≤ length (now list) ⌝ }
     ensures served { λ r. ⌜
-        (let due = served Service.List (now (order .entry)) in
-        Serves due (r .answer) (r .width) (now (list .exit)))
+        Serves (served Service.List (now (order .entry))) (r .answer) (r .width) (now (list .exit))
         ⌝ }
 {
     let found = orders::scan(order, Service::List);
@@ -250,7 +242,7 @@ fn serve_check(order: &[u8]) -> Answer
 // A call that ends with a refusal: its area is cleared (Specification 9.4).
 fn refuse(area: &mut [u8], number: u64, place: u64) -> i64
     requires fits { ⌜ refusalCode number place < 2 ^ 63 ⌝ }
-    ensures ends { λ r. ⌜ Ends (refusedEnd (length (now (area .entry))) number place) r (now (area .exit)) ⌝ }
+    ensures ends { λ r. ⌜ EndsIn area (λ size. refusedEnd size number place) r ⌝ }
 {
     clear_bytes(area, 0);
     answers::refusal(number, place)
@@ -259,10 +251,7 @@ fn refuse(area: &mut [u8], number: u64, place: u64) -> i64
 // A call that ends with a text: its length, or 6 at 0 where it is longer than the area (Specification 9.4).
 fn lay(area: &mut [u8], answer: Answer, numbers: &[i32], width: usize) -> i64
     requires rows { ⌜ lineCount answer * width ≤ length (now numbers) ⌝ }
-    ensures ends { λ r. ⌜
-        (let text = rowsText answer width (now (numbers .entry)) in
-        Ends (textEnd (length (now (area .entry))) text) r (now (area .exit)))
-        ⌝ }
+    ensures ends { λ r. ⌜ EndsIn area (λ size. textEnd size (rowsText answer width (now (numbers .entry)))) r ⌝ }
 {
     let size = area.len();
     let end = answers::write_answer(area, answer, numbers, width);
@@ -276,10 +265,7 @@ fn lay(area: &mut [u8], answer: Answer, numbers: &[i32], width: usize) -> i64
 fn respond(area: &mut [u8], answer: Answer, numbers: &[i32], width: usize) -> i64
     requires rows { ⌜ lineCount answer * width ≤ length (now numbers) ⌝ }
     requires small { ⌜ Small answer ⌝ }
-    ensures ends { λ r. ⌜
-        (let text = rowsText answer width (now (numbers .entry)) in
-        Ends (endBy (length (now (area .entry))) answer text) r (now (area .exit)))
-        ⌝ }
+    ensures ends { λ r. ⌜ EndsIn area (λ size. endBy size answer (rowsText answer width (now (numbers .entry)))) r ⌝ }
 {
     let Answer::Refused { number, place } = answer else {
         return lay(area, answer, numbers, width);
@@ -291,10 +277,7 @@ fn respond(area: &mut [u8], answer: Answer, numbers: &[i32], width: usize) -> i6
 fn print(area: &mut [u8; ANSWER_BYTES], answer: Answer, numbers: &[i32], width: usize) -> usize
     requires rows { ⌜ lineCount answer * width ≤ length (now numbers) ⌝ }
     ensures roomy { λ _. ⌜ textLimit ≤ length (now (area .entry)) ⌝ }
-    ensures laid { λ r. ⌜
-        (let text = rowsText answer width (now (numbers .entry)) in
-        TextIn text (length (now (area .entry))) r (now (area .exit)))
-        ⌝ }
+    ensures laid { λ r. ⌜ PrintsIn area (rowsText answer width (now (numbers .entry))) r ⌝ }
 {
     let room = area.len();
     let end = answers::write_answer(area, answer, numbers, width);
@@ -348,10 +331,7 @@ pub extern "C" fn sukoreta_answer_limit() -> usize
 pub fn print_list(buffer: &[u8; ORDER_BYTES], n: usize, answer: &mut [u8; ANSWER_BYTES]) -> usize
     requires read { ⌜ n ≤ length (now buffer) ⌝ }
     ensures counted { λ r. ⌜ Counted r (now (answer .exit)) ⌝ }
-    ensures printed { λ r. ⌜
-        (let bytes = now (buffer .entry) in
-        ForInput (length bytes) (take n bytes) (λ input. ListPrinted input r (now (answer .exit))))
-        ⌝ }
+    ensures printed { λ r. ⌜ PrintedFor ListPrinted (now (buffer .entry)) n r (now (answer .exit)) ⌝ }
 {
     let whole = &buffer[..];
     let mut list = [0i32; LIST_NUMBERS];
@@ -365,10 +345,7 @@ pub fn print_list(buffer: &[u8; ORDER_BYTES], n: usize, answer: &mut [u8; ANSWER
 pub fn print_split(buffer: &[u8; ORDER_BYTES], n: usize, answer: &mut [u8; ANSWER_BYTES]) -> usize
     requires read { ⌜ n ≤ length (now buffer) ⌝ }
     ensures counted { λ r. ⌜ Counted r (now (answer .exit)) ⌝ }
-    ensures printed { λ r. ⌜
-        (let bytes = now (buffer .entry) in
-        ForInput (length bytes) (take n bytes) (λ input. SplitPrinted input r (now (answer .exit))))
-        ⌝ }
+    ensures printed { λ r. ⌜ PrintedFor SplitPrinted (now (buffer .entry)) n r (now (answer .exit)) ⌝ }
 {
     let whole = &buffer[..];
     let mut pieces = [0i32; PIECE_NUMBERS];
@@ -380,10 +357,7 @@ pub fn print_split(buffer: &[u8; ORDER_BYTES], n: usize, answer: &mut [u8; ANSWE
 pub fn print_check(buffer: &[u8; ORDER_BYTES], n: usize, answer: &mut [u8; ANSWER_BYTES]) -> usize
     requires read { ⌜ n ≤ length (now buffer) ⌝ }
     ensures counted { λ r. ⌜ Counted r (now (answer .exit)) ⌝ }
-    ensures printed { λ r. ⌜
-        (let bytes = now (buffer .entry) in
-        ForInput (length bytes) (take n bytes) (λ input. CheckPrinted input r (now (answer .exit))))
-        ⌝ }
+    ensures printed { λ r. ⌜ PrintedFor CheckPrinted (now (buffer .entry)) n r (now (answer .exit)) ⌝ }
 {
     let whole = &buffer[..];
     let none = [0i32; 1];

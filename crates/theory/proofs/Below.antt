@@ -1,4 +1,4 @@
--- The order "below" on vectors, and sums whose summands oppose one another in no cell.
+-- The relation "below" on vectors, and sums whose summands oppose one another in no cell.
 -- Assumes nothing.
 use mathlib.Core.Path.{_≡_, refl, sym, _∙_, ap, subst}
 use mathlib.Core.Bool.{Bool, true, false, not, _&&_, _||_}
@@ -138,7 +138,7 @@ pub ⊑-zero : (v : Vector) → length v ≡ cells → zeroVector ⊑ v
 unfolding zeroVector
 ⊑-zero v p = ⊑-zeros cells v p
 
--- the test decides the order
+-- the test decides the relation
 pub ⊑-decide : (u v : Vector) → Dec (u ⊑ v)
 ⊑-decide u v = go (below u v) refl
   where

@@ -102,9 +102,12 @@ unfolding weight
 weight-within [] e = each-nil
 weight-within (x ∷ v) e = let k : natAbs x ≤ 0 = omega arith in each-cons k (weight-within v (omega arith))
 
-pub is-zero : (v : Vector) → length v ≡ cells → isZero v ≡ true → v ≡ zeroVector
+pub is-weightless : (v : Vector) → isZero v ≡ true → weight v ≡ 0
 unfolding isZero
-is-zero v p e = weightless v p (zero-weight v (within-each 0 v e))
+is-weightless v e = zero-weight v (within-each 0 v e)
+
+pub is-zero : (v : Vector) → length v ≡ cells → isZero v ≡ true → v ≡ zeroVector
+is-zero v p e = weightless v p (is-weightless v e)
 
 pub zero-is : {v : Vector} → v ≡ zeroVector → isZero v ≡ true
 unfolding isZero

@@ -106,7 +106,7 @@ cell-complete (pos a) (negsuc b) h =
 cell-complete (negsuc a) (pos b) h = absurd (omega arith)
 cell-complete (negsuc a) (negsuc b) h = le→leb (suc a) (suc b) (h .fall)
 
--- ---- the order
+-- ---- below is reflexive, transitive and antisymmetric
 pub cell-refl : (x : ℤ) → CellBelow x x
 cell-refl x = omega arith
 

@@ -47,3 +47,17 @@ is-member v (u ∷ vs) e = go (equal u v) refl e (λ f. is-member v vs f)
 pub not-member : (v : Vector) (vs : List Vector) → isMember v vs ≡ false → ¬ (List·Memᴰ v vs)
 unfolding isMember
 not-member v vs e k = clash (same-equal v) (each-member (any-none (λ w. equal w v) vs e) k)
+
+pub member-is : {v : Vector} {vs : List Vector} → List·Memᴰ v vs → isMember v vs ≡ true
+member-is {v} {vs} k = go (isMember v vs) refl
+  where
+    go : (b : Bool) → isMember v vs ≡ b → b ≡ true
+    go true e = refl
+    go false e = absurd (not-member v vs e k)
+
+pub member-not : {v : Vector} {vs : List Vector} → ¬ (List·Memᴰ v vs) → isMember v vs ≡ false
+member-not {v} {vs} f = go (isMember v vs) refl
+  where
+    go : (b : Bool) → isMember v vs ≡ b → b ≡ false
+    go true e = absurd (f (is-member v vs e))
+    go false e = refl

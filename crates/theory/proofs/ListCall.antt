@@ -1,4 +1,4 @@
--- LIST (Specification 3, demand 2): an accepted listing is whole, in order, each row the greatest of its images and within the limit; and the
+-- LIST (Specification 3, demand 2): an accepted listing is whole, sorted, each row the greatest of its images and within the limit; and the
 -- completion stops short only by 12 or 13. Assumes nothing.
 use mathlib.Core.Path.{_≡_, refl, subst}
 use mathlib.Core.Logic.{_⊎_, inl, inr}

@@ -33,7 +33,7 @@ pub or-false-right : (a b : Bool) → (a || b) ≡ false → b ≡ false
 or-false-right true b e = absurd (true≢false e)
 or-false-right false b e = e
 
--- two numbers are in one of three orders
+-- of two numbers one is less, or they are equal
 pub trichotomy : (x y : ℕ) → (x < y) ⊎ ((x ≡ y) ⊎ (y < x))
 trichotomy x y = go (decLt x y) (decLt y x)
   where

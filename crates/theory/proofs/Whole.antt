@@ -129,7 +129,7 @@ module _ {n : ℕ} {sent table : List Exchange} {generators : List Vector} (O : 
           same : u ≡ q
           same = ⊑-same-weight h (sym (image-weight n sent (O .exchanges) (O .fits) pu z) ∙ ap weight equal-to ∙ image-weight n sent (O .exchanges) (O .fits) (row-sized q k) x)
 
-      -- THE KEPT ROWS ARE A WHOLE LIST, in whatever order
+      -- THE KEPT ROWS ARE A WHOLE LIST, sorted or not
       pub kept-whole : (final : List Vector) → Once final → ((r : Vector) → List·Memᴰ r final → List·Memᴰ r rows × KeptIn rows r)
           → ((r : Vector) → List·Memᴰ r rows → KeptIn rows r → List·Memᴰ r final) → Whole n sent generators final
       kept-whole final once of to = record {

@@ -1,2 +1,3 @@
--- What the functions on vectors ask of their callers.
+-- What the functions on vectors ask of their callers, and lent areas at the two moments of a call.
 pub mod Bounds
+pub mod Areas

@@ -12,7 +12,7 @@ ghost use Rattle.definitions.specs.Vector.{padded, plus, minus, negative, weigh
 ghost use Rattle.definitions.specs.Vector.{cellBelow, below, equal, greater};
 ghost use Rattle.definitions.specs.Group.{exchanged};
 ghost use Rattle.definitions.specs.Split.{cellTimes, times};
-ghost use Rattle.definitions.specs.Lent.{filled, vectorsOf};
+ghost use Rattle.vectors.specs.Areas.{clearedFrom, vectorsIn};
 ghost use Rattle.vectors.specs.Bounds.{headroom, NamesCells};
 use definitions::limits::CELLS;
 
@@ -243,7 +243,7 @@ pub fn times(u: [i32; CELLS], v: [i32; CELLS]) -> u64
 // Row `p` of an area, as a vector.
 pub fn vector_at(area: &[i32], n: usize, p: usize) -> [i32; CELLS]
     requires row { ⌜ (n ≤ cells) × (p < length (now area) / n) ⌝ }
-    ensures made { λ r. ⌜ r ≡ getD (vectorsOf n (now (area .entry))) p [] ⌝ }
+    ensures made { λ r. ⌜ r ≡ getD (vectorsIn n area) p [] ⌝ }
 {
     load(area, p * n, n)
 }
@@ -251,7 +251,7 @@ pub fn vector_at(area: &[i32], n: usize, p: usize) -> [i32; CELLS]
 // Whether `v` is one of the rows of an area.
 pub fn is_row(v: [i32; CELLS], area: &[i32], n: usize) -> bool
     requires cells { ⌜ (1 ≤ n) × (n ≤ cells) ⌝ }
-    ensures told { λ r. ⌜ r ≡ isMember v (vectorsOf n (now (area .entry))) ⌝ }
+    ensures told { λ r. ⌜ r ≡ isMember v (vectorsIn n area) ⌝ }
 {
     let count = area.len() / n;
     let mut p = 0;
@@ -266,10 +266,7 @@ pub fn is_row(v: [i32; CELLS], area: &[i32], n: usize) -> bool
 
 // Sets the numbers from `at` on to zero (Specification 7.4).
 pub fn clear(area: &mut [i32], at: usize)
-    ensures cleared { λ _. ⌜
-        (let old = now (area .entry) in
-        now (area .exit) ≡ filled (pos 0) (length old) (take at old))
-        ⌝ }
+    ensures cleared { λ _. ⌜ now (area .exit) ≡ clearedFrom (pos 0) at (now (area .entry)) ⌝ }
 {
     let mut i = at;
     while i < area.len() {
@@ -280,10 +277,7 @@ pub fn clear(area: &mut [i32], at: usize)
 
 // Sets the bytes from `at` on to zero (Specification 7.4).
 pub fn clear_bytes(area: &mut [u8], at: usize)
-    ensures cleared { λ _. ⌜
-        (let old = now (area .entry) in
-        now (area .exit) ≡ filled 0 (length old) (take at old))
-        ⌝ }
+    ensures cleared { λ _. ⌜ now (area .exit) ≡ clearedFrom 0 at (now (area .entry)) ⌝ }
 {
     let mut i = at;
     while i < area.len() {

@@ -1,13 +1,13 @@
--- The sums over the brought rows, one after the other: those that are left decide refusal 21 as all do (Specification 5.1).
--- Assumes nothing.
+-- The sums over the brought rows, one after the other: those that are left decide refusal 21 as all do (Specification 5.1), and those
+-- before them have remainder zero. Assumes nothing.
 use mathlib.Core.Path.{_≡_, refl, sym, _∙_, ap, subst}
 use mathlib.Core.Bool.{true, false}
 use mathlib.Core.List.{List}
-use Prim.Native.Nat.{ℕ, zero, suc, _+_, _-_, _/_, _≤_, _<_}
+use Prim.Native.Nat.{ℕ, zero, suc, _+_, _-_, _*_, _/_, _≤_, _<_}
 use native.Mathlib.Omega.{arith}
 use borrow.Author.Tests.{le-leb, lt-leb}
 use lib.IntN.{ℤ}
-use lib.ListN.{length}
+use lib.ListN.{length, getD}
 use Rattle.definitions.specs.declared.Fault.{Fault}
 use Rattle.definitions.specs.declared.Fault.the-variants.{None, At}
 use Rattle.definitions.specs.Limits.{entryLimit, listLimit}
@@ -20,6 +20,8 @@ use Rattle.definitions.specs.Refusals.{sumsFault}
 use Rattle.theory.proofs.Members.{Each}
 use Rattle.theory.proofs.Bounds.{Within}
 use Rattle.theory.proofs.Counting.{Counted, fewer, first-counted, next-counted, next-sums}
+use Rattle.theory.proofs.Places.{first-before}
+use Rattle.theory.proofs.Sums.{ZeroBefore, before-onward}
 use Rattle.theory.proofs.CheckCall.{vectors-count}
 use Rattle.reduction.specs.declared.Shape.{Shape}
 use Rattle.reduction.specs.Areas.{rowsAt, sequencesIn}
@@ -27,6 +29,7 @@ use Rattle.reduction.proofs.Lent.{sequences-count}
 use Rattle.completion.specs.declared.State.{State}
 use Rattle.completion.specs.Machine.{Advanced, Countable, Summable, countable, firstAt, remainderIn, stateOf}
 use Rattle.completion.proofs.Facts.{sums-small}
+use Rattle.completion.proofs.Sums.{rest-repeated}
 use Rattle.wholeness.specs.Lists.{Brought, Ready, triedFault}
 use Rattle.wholeness.proofs.Given.{rows-ready, rows-same}
 
@@ -63,6 +66,7 @@ pub record Trying (shape : Shape) (table : List ℕ) (rows : List ℤ) (s : Stat
       (stateOf s (vectorsOf (shape .n) rows))
   pub same : sumsFault (sequencesIn shape table) (allSums shape table rows - s .sums) (stateOf s (vectorsOf (shape .n) rows))
       ≡ triedFault shape table rows
+  pub before : ZeroBefore (sequencesIn shape table) (stateOf s (vectorsOf (shape .n) rows))
 
 module _ {shape : Shape} {table : List ℕ} {rows : List ℤ} (B : Brought shape table rows) where
   abbrev G : List Exchange
@@ -92,6 +96,7 @@ module _ {shape : Shape} {table : List ℕ} {rows : List ℤ} (B : Brought shape
         held = refl;
         counted = first-counted (length G) (length vs) vs (omega (arith, members-are, B .some)) (omega arith);
         same = ap (λ (m : ℕ). sumsFault G m (firstState vs)) k;
+        before = λ i j p b l m k h. absurd (first-before vs i j p b h);
       }
 
   module _ {s : State} (T : Trying shape table rows s) where
@@ -140,6 +145,12 @@ module _ {shape : Shape} {table : List ℕ} {rows : List ℤ} (B : Brought shape
         positionIn = position-in;
       }
 
+      -- a sum whose image has the mark 0 has remainder zero
+      pub trying-repeated : {marks : List ℕ} → Ready shape table rows marks
+          → getD marks (s .j * shape .g + s .position) 0 ≡ 0 → isZero (remainderIn shape table rows s) ≡ true
+      trying-repeated R e =
+          rest-repeated (trying-summable R) (subst (λ (l : List Vector). ZeroBefore G (stateOf s l)) (sym rows-held) (T .before)) e
+
       open-test : fault ≡ sumsFault G (suc (all - (s .sums + 1))) (stateOf s vs)
       open-test =
           let k : all - s .sums ≡ suc (all - (s .sums + 1)) = omega (arith, few) in
@@ -149,33 +160,35 @@ module _ {shape : Shape} {table : List ℕ} {rows : List ℤ} (B : Brought shape
       unfolding isFinished
       open-sum = lt-leb (length vs) (s .i) left-rows
 
-      -- the remainder r of the sum
-      module _ (r : Vector) (is : r ≡ remainderIn shape table rows s) where
-        is-rest : isZero (remainder G vs (sumAt G (stateOf s vs))) ≡ isZero r
-        is-rest = ap isZero (sym (is ∙ ap (λ (l : List Vector). remainder G l (sumAt G (stateOf s l))) rows-held))
+      -- the remainder of the sum
+      is-rest : isZero (remainder G vs (sumAt G (stateOf s vs))) ≡ isZero (remainderIn shape table rows s)
+      is-rest = ap (λ (l : List Vector). isZero (remainder G l (sumAt G (stateOf s l)))) (sym rows-held)
 
-        -- is not zero
-        pub trying-fault : isZero r ≡ false → At 21 (s .sums + 1) ≡ fault
-        trying-fault z = sym (open-test ∙ sums-here G (all - (s .sums + 1)) (stateOf s vs) open-sum (is-rest ∙ z))
+      -- is not zero
+      pub trying-fault : isZero (remainderIn shape table rows s) ≡ false → At 21 (s .sums + 1) ≡ fault
+      trying-fault z = sym (open-test ∙ sums-here G (all - (s .sums + 1)) (stateOf s vs) open-sum (is-rest ∙ z))
 
-        -- is zero: on to t
-        module _ (t : State) (a : Advanced (shape .g) (length rows / shape .n) s t) where
-          moved : stateOf t vs ≡ next (length G) vs (stateOf s vs)
-          moved = a .state vs vs ∙ ap (λ (k : ℕ). next k vs (stateOf s vs)) (sym members-are)
+      -- is zero: on to t
+      module _ (t : State) (a : Advanced (shape .g) (length rows / shape .n) s t) where
+        moved : stateOf t vs ≡ next (length G) vs (stateOf s vs)
+        moved = a .state vs vs ∙ ap (λ (k : ℕ). next k vs (stateOf s vs)) (sym members-are)
 
-          sums-more : t .sums ≡ s .sums + 1
-          sums-more = ap (λ (x : Defined.State). x .sums) moved ∙ next-sums (length G) vs (stateOf s vs)
+        sums-more : t .sums ≡ s .sums + 1
+        sums-more = ap (λ (x : Defined.State). x .sums) moved ∙ next-sums (length G) vs (stateOf s vs)
 
-          pub trying-next : isZero r ≡ true → Trying shape table rows t
-          trying-next z =
-              let count = next-counted (length G) (length vs) vs (stateOf s vs) (T .counted) left-rows in
-              record {
-                held = a .rows;
-                counted = subst (Counted (length G) (length vs)) (sym moved) (count (omega arith) (omega arith));
-                same = (λ i. sumsFault G (all - sums-more i) (moved i))
-                    ∙ sym (open-test ∙ sums-next G (all - (s .sums + 1)) (stateOf s vs) open-sum (is-rest ∙ z));
-              }
+        pub trying-next : isZero (remainderIn shape table rows s) ≡ true → Trying shape table rows t
+        unfolding sumAt
+        trying-next z =
+            let count = next-counted (length G) (length vs) vs (stateOf s vs) (T .counted) left-rows in
+            record {
+              held = a .rows;
+              counted = subst (Counted (length G) (length vs)) (sym moved) (count (omega arith) (omega arith));
+              same = (λ i. sumsFault G (all - sums-more i) (moved i))
+                  ∙ sym (open-test ∙ sums-next G (all - (s .sums + 1)) (stateOf s vs) open-sum (is-rest ∙ z));
+              before = subst (ZeroBefore G) (sym moved)
+                  (before-onward G (stateOf s vs) vs left-rows (λ i j p b l m e. e) (is-rest ∙ z) (T .before));
+            }
 
-          -- and fewer sums are left
-          pub trying-less : all - t .sums < all - s .sums
-          trying-less = omega (arith, few, sums-more)
+        -- and fewer sums are left
+        pub trying-less : all - t .sums < all - s .sums
+        trying-less = omega (arith, few, sums-more)

@@ -13,6 +13,7 @@ ghost use Rattle.reduction.specs.Areas.{sequencesIn};
 ghost use Rattle.reduction.specs.Marks.{Marked};
 ghost use Rattle.wholeness.specs.Lists.{Brought, Ready, generatorsFault, othersFault, triedFault};
 use completion::first;
+use completion::is_repeated_sum;
 use completion::next;
 use completion::try_sum;
 use definitions::Fault;
@@ -77,7 +78,8 @@ fn generators_fault(
     Fault::None
 }
 
-// Refusal 21: the first sum of step 2 over the rows whose remainder is not zero (Specification 3.2 and 7.2).
+// Refusal 21: the first sum of step 2 over the rows whose remainder is not zero (Specification 3.2 and 7.2). A sum that
+// was tried before has remainder zero.
 fn sums_fault(rows: &[i32], table: &[u8], shape: Shape, marks: &[u8]) -> Fault
     requires ready { ⌜ Ready shape (now table) (now rows) (now marks) ⌝ }
     ensures found { λ r. ⌜ r ≡ triedFault shape (now (table .entry)) (now (rows .entry)) ⌝ }
@@ -85,12 +87,14 @@ fn sums_fault(rows: &[i32], table: &[u8], shape: Shape, marks: &[u8]) -> Fault
     let stored = rows.len() / shape.n;
     let mut s = first(stored);
     while s.i < stored {
-        let rest = try_sum(s, rows, table, shape, marks);
-        if !is_zero(rest) {
-            return Fault::At {
-                number: 21,
-                place: s.sums + 1,
-            };
+        if !is_repeated_sum(s, marks, shape.g) {
+            let rest = try_sum(s, rows, table, shape, marks);
+            if !is_zero(rest) {
+                return Fault::At {
+                    number: 21,
+                    place: s.sums + 1,
+                };
+            }
         }
         let t = next(s, stored, shape.g);
         s = t;

@@ -59,6 +59,7 @@ group-table-requires c κs =
       record {
         some = d .least;
         most = d .most;
+        few = omega (arith, c .before .rows-up-to .ensures);
         room = subst (λ (l : ℕ). l * s .args .n ≤ size s) (sym (c .before .rows-up-to .ensures)) (rows-inside groupLimit (s .args .n) (size s));
       },
       fit s .exchanges,

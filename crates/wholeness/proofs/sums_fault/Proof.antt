@@ -1,13 +1,17 @@
--- `sums_fault` meets its contract. The invariant: the sums that are left decide the test as all do. The measure: their
--- number. Assumes nothing.
-use mathlib.Core.Path.{_≡_, sym, _∙_}
+-- `sums_fault` meets its contract. The invariant: the sums that are left decide the test as all do, and those before them have
+-- remainder zero. The measure: the number of those left. Assumes nothing.
+use mathlib.Core.Path.{_≡_, sym, _∙_, ap}
+use mathlib.Core.Logic.{⊎-elim}
+use mathlib.Core.Bool.{true}
 use Prim.Native.Nat.{_-_}
 use native.Mathlib.Omega.{arith}
 use borrow.Author.Needs.{needs}
-use borrow.Author.Tests.{not-true, not-false}
-use Rattle.wholeness.specs.Lists.{Brought}
+use borrow.Author.Tests.{eqb-true, not-true, not-false}
+use Rattle.definitions.specs.Vector.{isZero}
+use Rattle.completion.specs.Machine.{remainderIn}
+use Rattle.completion.proofs.Sums.{mark-room}
 use Rattle.wholeness.proofs.Trying.{Trying, allSums, trying-start, trying-end, trying-summable, trying-countable}
-use Rattle.wholeness.proofs.Trying.{trying-fault, trying-next, trying-less}
+use Rattle.wholeness.proofs.Trying.{trying-fault, trying-next, trying-less, trying-repeated}
 use Rattle.wholeness.proofs.sums_fault.Statement.{statement}
 use Rattle.wholeness.proofs.sums_fault.Tie as tie
 
@@ -30,18 +34,25 @@ loop-holds c = rw (c .first .ensures) (trying-start (c .before .before .before .
 abbrev start : tie.At-loop Inv-loop μ-loop → tie.Start Inv-loop μ-loop
 start a = a .before .before .before .before .before
 
-try-sum-requires : tie.Need-try-sum-requires Inv-loop μ-loop
-try-sum-requires c κs =
+is-repeated-sum-requires : tie.Need-is-repeated-sum-requires Inv-loop μ-loop
+is-repeated-sum-requires c κs =
     let a = c .before .before in
     let R = start a .pre in
-    trying-summable (R .brought) (a .loop .inv) (c .if1 .taken) R
+    mark-room (trying-summable (R .brought) (a .loop .inv) (c .if1 .taken) R)
+
+try-sum-requires : tie.Need-try-sum-requires Inv-loop μ-loop
+try-sum-requires c κs =
+    let h = c .before .before in
+    let a = h .before .before in
+    let R = start a .pre in
+    trying-summable (R .brought) (a .loop .inv) (h .if1 .taken) R
 
 is-zero-requires : tie.Need-is-zero-requires Inv-loop μ-loop
 is-zero-requires c κs = tt
 
-add-t12 : tie.Need-add-t12 Inv-loop μ-loop
-add-t12 c =
-    let h = c .before .before .before .before in
+add-t14 : tie.Need-add-t14 Inv-loop μ-loop
+add-t14 c =
+    let h = c .before .before .before .before .before .before in
     let a = h .before .before in
     omega (arith, trying-countable (start a .pre .brought) (a .loop .inv) (h .if1 .taken))
 
@@ -49,33 +60,41 @@ returns : tie.Need-returns Inv-loop μ-loop
 returns c =
     let z = c .before .before in
     let t = z .before in
-    let h = t .before in
+    let h = t .before .before .before in
     let a = h .before .before in
-    trying-fault (start a .pre .brought) (a .loop .inv) (h .if1 .taken) (t .try-sum .result) (t .try-sum .ensures)
-    (sym (z .is-zero .ensures) ∙ not-true _ (c .before .if2 .taken))
+    trying-fault (start a .pre .brought) (a .loop .inv) (h .if1 .taken)
+    (ap isZero (sym (t .try-sum .ensures)) ∙ sym (z .is-zero .ensures) ∙ not-true _ (c .before .if3 .taken))
 
 next-requires : tie.Need-next-requires Inv-loop μ-loop
 next-requires c κs =
-    let h = c .before .before .before in
+    let h = c .before .before in
     let a = h .before .before in
     trying-countable (start a .pre .brought) (a .loop .inv) (h .if1 .taken)
 
 loop-less : tie.Need-loop-less Inv-loop μ-loop
 loop-less c =
-    let t = c .before .before .before in
-    let h = t .before in
+    let h = c .before .before .before in
     let a = h .before .before in
-    trying-less (start a .pre .brought) (a .loop .inv) (h .if1 .taken) (t .try-sum .result) (t .try-sum .ensures)
-    (c .next .result) (c .next .ensures)
+    trying-less (start a .pre .brought) (a .loop .inv) (h .if1 .taken) (c .next .result) (c .next .ensures)
+
+-- the remainder of the state's sum is zero: it was reduced, or the sum was tried before
+zero-rest : (c : tie.Joined2 Inv-loop μ-loop) → let h = c .before .before in let a = h .before .before in let s = start a in
+    isZero (remainderIn (s .args .shape) (s .args .table .now) (s .args .rows .now) (a .loop .s)) ≡ true
+zero-rest c =
+    let h = c .before .before in
+    let a = h .before .before in
+    let R = start a .pre in
+    ⊎-elim
+    (λ w. ap isZero (sym (w .1 .ensures)) ∙ sym (w .2 .ensures) ∙ not-false _ (w .3 .left))
+    (λ w. trying-repeated (R .brought) (a .loop .inv) (h .if1 .taken) R
+    (eqb-true _ 0 (sym (c .before .is-repeated-sum .ensures) ∙ not-false _ (w .left))))
+    (c .if2 .came)
 
 loop-again : tie.Need-loop-again Inv-loop μ-loop
 loop-again c =
-    let z = c .before .before in
-    let t = z .before in
-    let h = t .before in
+    let h = c .before .before .before in
     let a = h .before .before in
-    trying-next (start a .pre .brought) (a .loop .inv) (h .if1 .taken) (t .try-sum .result) (t .try-sum .ensures)
-    (c .next .result) (c .next .ensures) (sym (z .is-zero .ensures) ∙ not-false _ (c .before .if2 .left))
+    trying-next (start a .pre .brought) (a .loop .inv) (h .if1 .taken) (c .next .result) (c .next .ensures) (zero-rest (c .before))
 
 returns-2 : tie.Need-returns-2 Inv-loop μ-loop
 returns-2 c = let a = c .before .before in trying-end (start a .pre .brought) (a .loop .inv) (c .if1 .left)
@@ -89,9 +108,10 @@ sums-fault-spec =
     div-stored
     first-requires
     loop-holds
+    is-repeated-sum-requires
     try-sum-requires
     is-zero-requires
-    add-t12
+    add-t14
     returns
     next-requires
     loop-less
