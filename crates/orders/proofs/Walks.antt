@@ -23,7 +23,7 @@ use Rattle.commands.specs.Decode.{byteAt, signedAt}
 use Rattle.commands.proofs.Known.{known-at, of-same-code}
 use Rattle.orders.specs.declared.Counts.{Counts}
 use Rattle.orders.specs.Operands.{LiesIn, Readable, signedNumbers, byteNumbers, numbersOf, gathered, commandsBy, commandsFrom, commandsIn}
-use Rattle.orders.specs.Walk.{Holds, Taken, Filled}
+use Rattle.orders.specs.Walk.{Holds, Taken}
 use Rattle.orders.proofs.Commands.{next-commands}
 
 -- ---- the numbers of one command
@@ -213,7 +213,7 @@ module _ {A : Type 0} (code : ℕ) (decode : List ℕ → List A) (order : List 
         }
 
   -- no command is left
-  pub walk-end : (now : List A) (at filled : ℕ) {r : Reading} → Walk now at filled → r ≡ commandAt order at → OneOf (1 ∷ 2 ∷ []) (tagOf the-type r) → Filled total before now
+  pub walk-end : (now : List A) (at filled : ℕ) {r : Reading} → Walk now at filled → r ≡ commandAt order at → OneOf (1 ∷ 2 ∷ []) (tagOf the-type r) → now ≡ total ++ drop (length total) before
   unfolding gathered commandsFrom
   walk-end now at filled {r} w read none =
       let e : w .done ≡ total = sym (append-nil (w .done)) ∙ ap (λ (l : List Command). w .done ++ gathered code decode order l) (sym (over (w .fuel))) ∙ w .all in

@@ -5,9 +5,10 @@ ghost use Prim.Native.Nat.{_+_, _≤_};
 ghost use lib.ListN.{length};
 ghost use Rattle.commands.specs.Commands.{coefficientsCode, exchangeCode};
 ghost use Rattle.commands.specs.Decode.{signedAt};
-ghost use Rattle.orders.specs.Operands.{Readable, commandsIn, byteNumbers, gathered, numbersOf, signedNumbers};
+ghost use Rattle.orders.specs.Operands.{Readable};
 ghost use Rattle.orders.specs.Operands.{generatorsIn, exchangesIn, rowsIn, coefficientsIn, vectorIn};
-ghost use Rattle.orders.specs.Walk.{Filled, Holds, Inside, SignedSize, Taken, signedIn};
+ghost use Rattle.orders.specs.Walk.{Filled, Holds, Inside, SignedSize, TakenIn};
+ghost use Rattle.orders.specs.Walk.{cellNumbers, kindGathered, kindNumbers, wideNumbers};
 use crate::Counts;
 use commands::COEFFICIENTS;
 use commands::Command;
@@ -52,13 +53,8 @@ fn take_numbers(
 ) -> usize
     requires size { ⌜ SignedSize (kind .size) ⌝ }
     requires inside { ⌜ Inside (now order) (kind .code) (kind .size) (kind .count) command ⌝ }
-    requires room { ⌜
-        filled + length (numbersOf (kind .code) (signedIn kind) (now order) command) ≤ length (now area)
-        ⌝ }
-    ensures taken { λ r. ⌜
-        (let numbers = numbersOf (kind .code) (signedIn kind) (now (order .entry)) command in
-        Taken numbers filled (now (area .entry)) (now (area .exit)) r)
-        ⌝ }
+    requires room { ⌜ filled + length (kindNumbers kind (now order) command) ≤ length (now area) ⌝ }
+    ensures taken { λ r. ⌜ TakenIn (kindNumbers kind (now (order .entry)) command) filled area r ⌝ }
 {
     if code_of(command) != kind.code {
         return filled;
@@ -76,13 +72,8 @@ fn take_numbers(
 // The cells of an EXCHANGE, likewise.
 fn take_bytes(order: &[u8], command: Command, count: usize, filled: usize, area: &mut [u8]) -> usize
     requires inside { ⌜ Inside (now order) exchangeCode 1 count command ⌝ }
-    requires room { ⌜
-        filled + length (numbersOf exchangeCode (byteNumbers count) (now order) command) ≤ length (now area)
-        ⌝ }
-    ensures taken { λ r. ⌜
-        (let numbers = numbersOf exchangeCode (byteNumbers count) (now (order .entry)) command in
-        Taken numbers filled (now (area .entry)) (now (area .exit)) r)
-        ⌝ }
+    requires room { ⌜ filled + length (cellNumbers count (now order) command) ≤ length (now area) ⌝ }
+    ensures taken { λ r. ⌜ TakenIn (cellNumbers count (now (order .entry)) command) filled area r ⌝ }
 {
     if code_of(command) != EXCHANGE {
         return filled;
@@ -100,13 +91,8 @@ fn take_bytes(order: &[u8], command: Command, count: usize, filled: usize, area:
 // The numbers of COEFFICIENTS, likewise, into an area of wide numbers.
 fn take_wide(order: &[u8], command: Command, count: usize, filled: usize, area: &mut [i64]) -> usize
     requires inside { ⌜ Inside (now order) coefficientsCode 4 count command ⌝ }
-    requires room { ⌜
-        filled + length (numbersOf coefficientsCode (signedNumbers 4 count) (now order) command) ≤ length (now area)
-        ⌝ }
-    ensures taken { λ r. ⌜
-        (let numbers = numbersOf coefficientsCode (signedNumbers 4 count) (now (order .entry)) command in
-        Taken numbers filled (now (area .entry)) (now (area .exit)) r)
-        ⌝ }
+    requires room { ⌜ filled + length (wideNumbers count (now order) command) ≤ length (now area) ⌝ }
+    ensures taken { λ r. ⌜ TakenIn (wideNumbers count (now (order .entry)) command) filled area r ⌝ }
 {
     if code_of(command) != COEFFICIENTS {
         return filled;
@@ -125,13 +111,8 @@ fn take_wide(order: &[u8], command: Command, count: usize, filled: usize, area: 
 fn read_numbers(order: &[u8], c: Counts, kind: Kind, area: &mut [i32])
     requires readable { ⌜ Readable (now order) c ⌝ }
     requires kind { ⌜ SignedSize (kind .size) × Holds (kind .code) (kind .size) (kind .count) c ⌝ }
-    requires room { ⌜
-        length (gathered (kind .code) (signedIn kind) (now order) (commandsIn (now order) c)) ≤ length (now area)
-        ⌝ }
-    ensures read { λ _. ⌜
-        (let order = now (order .entry) in
-        Filled (gathered (kind .code) (signedIn kind) order (commandsIn order c)) (now (area .entry)) (now (area .exit)))
-        ⌝ }
+    requires room { ⌜ length (kindGathered kind (now order) c) ≤ length (now area) ⌝ }
+    ensures read { λ _. ⌜ Filled (kindGathered kind (now (order .entry)) c) area ⌝ }
 {
     let mut at = 0;
     let mut filled = 0;
@@ -149,7 +130,7 @@ fn read_numbers(order: &[u8], c: Counts, kind: Kind, area: &mut [i32])
 pub fn read_exchanges(order: &[u8], c: Counts, area: &mut [u8])
     requires readable { ⌜ Readable (now order) c ⌝ }
     requires room { ⌜ length (exchangesIn (now order) c) ≤ length (now area) ⌝ }
-    ensures read { λ _. ⌜ Filled (exchangesIn (now (order .entry)) c) (now (area .entry)) (now (area .exit)) ⌝ }
+    ensures read { λ _. ⌜ Filled (exchangesIn (now (order .entry)) c) area ⌝ }
 {
     let mut at = 0;
     let mut filled = 0;
@@ -167,7 +148,7 @@ pub fn read_exchanges(order: &[u8], c: Counts, area: &mut [u8])
 pub fn read_coefficients(order: &[u8], c: Counts, area: &mut [i64])
     requires readable { ⌜ Readable (now order) c ⌝ }
     requires room { ⌜ length (coefficientsIn (now order) c) ≤ length (now area) ⌝ }
-    ensures read { λ _. ⌜ Filled (coefficientsIn (now (order .entry)) c) (now (area .entry)) (now (area .exit)) ⌝ }
+    ensures read { λ _. ⌜ Filled (coefficientsIn (now (order .entry)) c) area ⌝ }
 {
     let mut at = 0;
     let mut filled = 0;
@@ -185,7 +166,7 @@ pub fn read_coefficients(order: &[u8], c: Counts, area: &mut [i64])
 pub fn read_generators(order: &[u8], c: Counts, area: &mut [i32])
     requires readable { ⌜ Readable (now order) c ⌝ }
     requires room { ⌜ length (generatorsIn (now order) c) ≤ length (now area) ⌝ }
-    ensures read { λ _. ⌜ Filled (generatorsIn (now (order .entry)) c) (now (area .entry)) (now (area .exit)) ⌝ }
+    ensures read { λ _. ⌜ Filled (generatorsIn (now (order .entry)) c) area ⌝ }
 {
     let kind = Kind {
         code: GENERATOR,
@@ -199,7 +180,7 @@ pub fn read_generators(order: &[u8], c: Counts, area: &mut [i32])
 pub fn read_rows(order: &[u8], c: Counts, area: &mut [i32])
     requires readable { ⌜ Readable (now order) c ⌝ }
     requires room { ⌜ length (rowsIn (now order) c) ≤ length (now area) ⌝ }
-    ensures read { λ _. ⌜ Filled (rowsIn (now (order .entry)) c) (now (area .entry)) (now (area .exit)) ⌝ }
+    ensures read { λ _. ⌜ Filled (rowsIn (now (order .entry)) c) area ⌝ }
 {
     let kind = Kind {
         code: ROW,
@@ -213,7 +194,7 @@ pub fn read_rows(order: &[u8], c: Counts, area: &mut [i32])
 pub fn read_vector(order: &[u8], c: Counts, area: &mut [i32])
     requires readable { ⌜ Readable (now order) c ⌝ }
     requires room { ⌜ length (vectorIn (now order) c) ≤ length (now area) ⌝ }
-    ensures read { λ _. ⌜ Filled (vectorIn (now (order .entry)) c) (now (area .entry)) (now (area .exit)) ⌝ }
+    ensures read { λ _. ⌜ Filled (vectorIn (now (order .entry)) c) area ⌝ }
 {
     let kind = Kind {
         code: VECTOR,

@@ -1,7 +1,7 @@
 -- A list that is brought to a Check and meets none of the tests before 20 (Specification 5.1). Assumes nothing.
 use mathlib.Core.Path.{_≡_}
 use mathlib.Core.Bool.{true, not}
-use mathlib.Core.List.{List, []}
+use mathlib.Core.List.{List, [], _∷_}
 use Prim.Native.Nat.{ℕ, _*_, _/_, _≤_, _<_}
 use lib.IntN.{ℤ}
 use lib.ListN.{length, getD}
@@ -11,8 +11,9 @@ use Rattle.definitions.specs.Vector.{isZero}
 use Rattle.definitions.specs.Orbit.{orbits}
 use Rattle.definitions.specs.Completion.{firstState, hasOtherBelow, remainder, sumCount}
 use Rattle.definitions.specs.Lent.{vectorsOf, wholeRows}
-use Rattle.definitions.specs.Refusals.{faultWhere, sumsFault}
+use Rattle.definitions.specs.Refusals.{faultWhere, firstFault, sumsFault, wholenessFault}
 use Rattle.theory.proofs.Members.{Each}
+use Rattle.vectors.specs.Areas.{Lent, vectorsIn}
 use Rattle.theory.proofs.Bounds.{Within}
 use Rattle.reduction.specs.declared.Shape.{Shape}
 use Rattle.reduction.specs.Areas.{Nonzero, Table, sequencesIn}
@@ -57,3 +58,12 @@ abbrev pub othersFault : Shape → (table : List ℕ) (rows : List ℤ) → Faul
 othersFault shape table rows =
     let vectors = vectorsOf (shape .n) rows in
     faultWhere 22 (length vectors) (hasOtherBelow (sequencesIn shape table) vectors)
+
+-- 21 and 22
+abbrev pub listFault : Shape → (table : List ℕ) (rows : List ℤ) → Fault
+listFault shape table rows = firstFault (triedFault shape table rows ∷ othersFault shape table rows ∷ [])
+
+-- 20 to 22, of lent generators and rows
+abbrev pub wholenessIn : Shape → (table : List ℕ) (generators rows : Lent ℤ) → Fault
+wholenessIn shape table generators rows =
+    wholenessFault (sequencesIn shape table) (vectorsIn (shape .n) generators) (vectorsIn (shape .n) rows)

@@ -1,17 +1,16 @@
 // The tests of a brought list that meets none of 5 to 19: refusals 20, 21 and 22 (Specification 5.1 and 7.2).
 ghost use mathlib.Core.Path.{_≡_};
 ghost use mathlib.Core.Bool.{true};
-ghost use mathlib.Core.List.{[], _∷_};
 ghost use Prim.Native.Nat.{_*_, _/_, _≤_};
 ghost use lib.ListN.{length};
 ghost use Rattle.definitions.specs.Limits.{groupLimit, listLimit};
 ghost use Rattle.definitions.specs.Vector.{within};
 ghost use Rattle.definitions.specs.Lent.{vectorsOf};
-ghost use Rattle.definitions.specs.Refusals.{firstFault, wholenessFault};
 ghost use Rattle.vectors.specs.Bounds.{headroom};
 ghost use Rattle.reduction.specs.Areas.{sequencesIn};
 ghost use Rattle.reduction.specs.Marks.{Marked};
-ghost use Rattle.wholeness.specs.Lists.{Brought, Ready, generatorsFault, othersFault, triedFault};
+ghost use Rattle.wholeness.specs.Lists.{Brought, Ready, generatorsFault, listFault, othersFault};
+ghost use Rattle.wholeness.specs.Lists.{triedFault, wholenessIn};
 use completion::first;
 use completion::is_repeated_sum;
 use completion::next;
@@ -124,11 +123,7 @@ fn others_fault(rows: &[i32], table: &[u8], shape: Shape) -> Fault
 // Refusals 21 and 22 (Specification 7.2).
 fn list_fault(rows: &[i32], table: &[u8], shape: Shape, marks: &[u8]) -> Fault
     requires ready { ⌜ Ready shape (now table) (now rows) (now marks) ⌝ }
-    ensures found { λ r. ⌜
-        (let table = now (table .entry) in
-        let rows = now (rows .entry) in
-        r ≡ firstFault (triedFault shape table rows ∷ othersFault shape table rows ∷ []))
-        ⌝ }
+    ensures found { λ r. ⌜ r ≡ listFault shape (now (table .entry)) (now (rows .entry)) ⌝ }
 {
     let fault = sums_fault(rows, table, shape, marks);
     match fault {
@@ -148,11 +143,7 @@ pub fn wholeness_fault(
     requires brought { ⌜ Brought shape (now table) (now rows) ⌝ }
     requires limited { ⌜ within headroom (now generators) ≡ true ⌝ }
     requires room { ⌜ listLimit * groupLimit ≤ length (now marks) ⌝ }
-    ensures found { λ r. ⌜
-        (let vectors = vectorsOf (shape .n) in
-        let sequences = sequencesIn shape (now (table .entry)) in
-        r ≡ wholenessFault sequences (vectors (now (generators .entry))) (vectors (now (rows .entry))))
-        ⌝ }
+    ensures found { λ r. ⌜ r ≡ wholenessIn shape (now (table .entry)) generators rows ⌝ }
 {
     mark_brought(rows, table, shape, &mut *marks);
     let fault = generators_fault(generators, rows, table, shape, &*marks);
