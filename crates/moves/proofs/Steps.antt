@@ -62,15 +62,15 @@ module _ {shape : Shape} {generators : List ℤ} {group : List ℕ} (G : Grouped
         limited = subst (λ (l : List ℤ). within headroom l ≡ true) (sym (e ∙ filled-nothing (pos 0) listSize)) (each-within headroom (zeros-within headroom listSize));
       }
 
-  module _ {list : List ℤ} {marks : List ℕ} where
+  module _ {list : List ℤ} {marks keys : List ℕ} where
     -- the completion was turned down
-    pub steps-stopped : (number place : ℕ) {groupSize : ℕ} → After shape group list marks (completedIn (sizesOf shape limit) group generators) (case.Stopped number place)
+    pub steps-stopped : (number place : ℕ) {groupSize : ℕ} → After shape group list marks keys (completedIn (sizesOf shape limit) group generators) (case.Stopped number place)
         → Finds n listSize groupSize (listingWith n listSize table generators) list group (listed.Refused number place)
     unfolding listingOf
     steps-stopped number place A =
         finds-refused (sym (ap (listingOf table) (A .answer ∙ ap (λ (k : ℕ). completed table k (vectorsOf n generators)) rows)))
 
-    module _ (s : State) (A : After shape group list marks (completedIn (sizesOf shape limit) group generators) (case.Running s)) (long : length list ≡ listSize) where
+    module _ (s : State) (A : After shape group list marks keys (completedIn (sizesOf shape limit) group generators) (case.Running s)) (long : length list ≡ listSize) where
       sound : Sound (G .admissible .symmetric) limit (running (stateIn n list s))
       sound = subst (Sound (G .admissible .symmetric) limit) (sym (A .answer)) (completed-sound (G .admissible .symmetric) (G .admissible .nonzero) (G .admissible .entries) limit)
 

@@ -15,6 +15,7 @@ use admission::Admission;
 use admission::admit;
 use admission::rows_up_to;
 use completion::Completion;
+use completion::Sizes;
 use definitions::Answer;
 use definitions::Fault;
 use definitions::limits::CELLS;
@@ -28,6 +29,9 @@ use vectors::clear_bytes;
 
 // The marks of all images of all list rows.
 const MARKS: usize = LIST_LIMIT * GROUP_LIMIT;
+
+// The keys of images for which there is room; an image without a key is compared.
+const KEYS: usize = 8_192;
 
 // What a List finds: the numbers of its answer.
 enum Listed {
@@ -66,8 +70,10 @@ fn complete_list(generators: &[i32], list: &mut [i32], group: &[u8], shape: Shap
 {
     clear(&mut *list, 0);
     let mut marks = [0u8; MARKS];
+    let mut keys = [0u64; KEYS];
     let limit = rows_up_to(LIST_LIMIT, shape.n, list.len());
-    let c = completion::complete(generators, &mut *list, group, shape, limit, &mut marks);
+    let sizes = Sizes { shape, limit };
+    let c = completion::complete(generators, &mut *list, group, sizes, &mut marks, &mut keys);
     match c {
         Completion::Stopped { number, place } => Listed::Refused { number, place },
         Completion::Running(s) => {
@@ -282,7 +288,8 @@ fn brought_fault(
         Fault::At { number, place } => Fault::At { number, place },
         Fault::None => {
             let mut marks = [0u8; MARKS];
-            wholeness::wholeness_fault(generators, rows, group, shape, &mut marks)
+            let mut keys = [0u64; KEYS];
+            wholeness::wholeness_fault(generators, rows, group, shape, &mut marks, &mut keys)
         }
     }
 }

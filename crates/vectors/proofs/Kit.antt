@@ -30,7 +30,7 @@ abbrev pub cellAt : Vector → ℕ → ℤ
 cellAt v i = getD v i (pos 0)
 
 -- one cell more
-drop-one : (v : Vector) (i : ℕ) → i < length v → drop i v ≡ cellAt v i ∷ drop (i + 1) v
+pub drop-one : (v : Vector) (i : ℕ) → i < length v → drop i v ≡ cellAt v i ∷ drop (i + 1) v
 drop-one v i h = rw (add-one, drop-cons v i (pos 0))
 
 -- ---- reading: a test of every two cells

@@ -2,5 +2,6 @@
 pub mod Cells
 pub mod Negatives
 pub mod Kit
+pub mod Keys
 pub mod Rows
 pub mod Searches

@@ -1,3 +1,4 @@
--- What the functions on vectors ask of their callers, and lent areas at the two moments of a call.
+-- What the functions on vectors ask of their callers, the keys of vectors, and lent areas at the two moments of a call.
 pub mod Bounds
+pub mod Keys
 pub mod Areas

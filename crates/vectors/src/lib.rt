@@ -14,7 +14,11 @@ ghost use Rattle.definitions.specs.Group.{exchanged};
 ghost use Rattle.definitions.specs.Split.{cellTimes, times};
 ghost use Rattle.vectors.specs.Areas.{clearedFrom, vectorsIn};
 ghost use Rattle.vectors.specs.Bounds.{headroom, NamesCells};
+ghost use Rattle.vectors.specs.Keys.{fits, key, side, turned};
 use definitions::limits::CELLS;
+
+// One more than the greatest number that one half of a key holds.
+const HALF: u64 = 4_294_967_296;
 
 // The absolute value of `a`.
 pub fn magnitude(a: i32) -> u32
@@ -284,4 +288,44 @@ pub fn clear_bytes(area: &mut [u8], at: usize)
         area[i] = 0;
         i += 1;
     }
+}
+
+// The bit for the sign of a cell: in the lower half of a key for a positive cell, in the upper half for a negative one.
+fn side(a: i32) -> u64
+    ensures made { λ r. ⌜ r ≡ side a ⌝ }
+{
+    if 0 < a {
+        1
+    } else if a < 0 {
+        HALF
+    } else {
+        0
+    }
+}
+
+// The key of `v`: a bit for each positive cell, and one for each negative cell.
+pub fn key(v: [i32; CELLS]) -> u64
+    ensures made { λ r. ⌜ r ≡ key v ⌝ }
+{
+    let mut sum: u64 = 0;
+    let mut i = CELLS;
+    while 0 < i {
+        i -= 1;
+        sum = sum * 2 + side(v[i]);
+    }
+    sum
+}
+
+// The key of the negative of a vector, from the vector's own.
+pub fn turned(key: u64) -> u64
+    ensures made { λ r. ⌜ r ≡ turned key ⌝ }
+{
+    (key % HALF) * HALF + key / HALF
+}
+
+// Whether every bit of `key` is one of `other`.
+pub fn fits(key: u64, other: u64) -> bool
+    ensures told { λ r. ⌜ r ≡ fits key other ⌝ }
+{
+    key & other == key
 }

@@ -1,5 +1,5 @@
 -- What a brought list gives to its tests: the area of its rows, and the limits that they keep. Assumes nothing.
-use mathlib.Core.Path.{_≡_, sym, _∙_, ap, ap₂, subst}
+use mathlib.Core.Path.{_≡_, sym, _∙_, ap, subst}
 use mathlib.Core.Bool.{true}
 use mathlib.Core.List.{List, [], _∷_, _++_, map}
 use Prim.Native.Nat.{ℕ, _+_, _-_, _*_, _/_, _%_, _≤_, _<_}
@@ -9,7 +9,7 @@ use native.Mathlib.Omega.{arith}
 use borrow.Author.Tests.{eqb-true}
 use lib.IntN.{ℤ, pos}
 use lib.ListN.{length, getD, take, replicate}
-use lib.Seq.{length-take-le, take-all, take-suc, take-append-seam}
+use lib.Seq.{take-all, take-suc, take-append-seam}
 use Rattle.definitions.specs.Limits.{cells, entryLimit, groupLimit, listLimit}
 use Rattle.definitions.specs.Lists.{concat}
 use Rattle.definitions.specs.Vector.{Vector, padded, within}
@@ -22,9 +22,7 @@ use Rattle.theory.proofs.Bounds.{Within, each-within, within-more}
 use Rattle.vectors.specs.Bounds.{headroom}
 use Rattle.reduction.specs.declared.Shape.{Shape}
 use Rattle.reduction.specs.Areas.{Area, Nonzero, rowsAt, sequencesIn}
-use Rattle.reduction.specs.Marks.{Marked, RowMarked, RowsReady}
-use Rattle.reduction.proofs.Lent.{sequences-count}
-use Rattle.reduction.proofs.Marking.{marked-more}
+use Rattle.reduction.specs.Marks.{Marked, RowsReady}
 use Rattle.wholeness.specs.Lists.{Brought, Ready}
 
 -- the numbers of rows, one row after the other, keep the limit that the rows as vectors keep
@@ -49,20 +47,11 @@ pub rows-same : (n k : ℕ) (rows : List ℤ) → k ≡ length rows / n → rows
 unfolding vectorsOf rowsOf
 rows-same n k rows e = ap (λ (m : ℕ). rowsAt n m rows) e
 
--- the marks of one row more, behind those before it
-pub marked-next : (shape : Shape) (table : List ℕ) (rows : List Vector) (r : ℕ) (row : Vector) (old new rest : List ℕ)
-    → r < length rows → row ≡ getD rows r [] → r * shape .g ≤ length old → length new ≡ shape .g
-    → Marked (sequencesIn shape table) (take r rows) old → RowMarked (sequencesIn shape table) row new
-    → Marked (sequencesIn shape table) (take (r + 1) rows) (take (r * shape .g) old ++ (new ++ rest))
-marked-next shape table rows r row old new rest h e room long before done =
-    let sequences = sequencesIn shape table in
-    let count = sequences-count shape table in
-    let place : r * shape .g ≡ length (take r rows) * length sequences =
-    sym (ap₂ _*_ (length-take-le r rows (omega arith)) count) in
-    let more : take r rows ++ row ∷ [] ≡ take (r + 1) rows =
-    ap (λ (v : Vector). take r rows ++ v ∷ []) e ∙ sym (take-suc rows r [] h) ∙ ap (λ (k : ℕ). take k rows) (sym (add-one r)) in
-    subst (λ (l : List Vector). Marked sequences l (take (r * shape .g) old ++ (new ++ rest))) more
-    (marked-more sequences (take r rows) row old new rest (r * shape .g) place room (long ∙ sym count) before done)
+-- one row more
+pub one-more : (rows : List Vector) (r : ℕ) (row : Vector) → r < length rows → row ≡ getD rows r []
+    → take r rows ++ row ∷ [] ≡ take (r + 1) rows
+one-more rows r row h e =
+    ap (λ (v : Vector). take r rows ++ v ∷ []) e ∙ sym (take-suc rows r [] h) ∙ ap (λ (k : ℕ). take k rows) (sym (add-one r))
 
 module _ {shape : Shape} {table : List ℕ} {rows : List ℤ} (B : Brought shape table rows) where
   rows-within : Within entryLimit rows
@@ -83,16 +72,16 @@ module _ {shape : Shape} {table : List ℕ} {rows : List ℤ} (B : Brought shape
   pub marks-room : {size : ℕ} → listLimit * groupLimit ≤ size → length rows / shape .n * shape .g ≤ size
   marks-room h = omega (arith, mul-le-mul (B .few) (B .small), h)
 
--- the rows, of which there are k, with their marks: vectors can be reduced by them
-pub rows-ready : {shape : Shape} {table : List ℕ} {rows : List ℤ} {marks : List ℕ} → Ready shape table rows marks
-    → (k : ℕ) → k ≡ length rows / shape .n → RowsReady shape k table rows marks
-rows-ready {shape} {table} {rows} {marks} R k e =
+-- the rows, of which there are k, with their marks and keys: vectors can be reduced by them
+pub rows-ready : {shape : Shape} {table : List ℕ} {rows : List ℤ} {marks keys : List ℕ} → Ready shape table rows marks keys
+    → (k : ℕ) → k ≡ length rows / shape .n → RowsReady shape k table rows marks keys
+rows-ready {shape} {table} {rows} {marks} {keys} R k e =
     let same = rows-same (shape .n) k rows e in
     let B = R .brought in
     record {
       isTable = B .rowsOfTable;
       area = rw e (area-in B);
       room = rw e (R .room);
-      marked = subst (λ (l : List Vector). Marked (sequencesIn shape table) l marks) (sym same) (R .marked);
+      marked = subst (λ (l : List Vector). Marked (sequencesIn shape table) l marks keys) (sym same) (R .marked);
       nonzero = subst (λ (l : List Vector). Nonzero (orbits (sequencesIn shape table) l)) (sym same) (B .positive);
     }

@@ -136,7 +136,7 @@ module _ {shape : Shape} {table : List ℕ} {rows : List ℤ} (B : Brought shape
           }
 
       -- what `try_sum` asks
-      pub trying-summable : {marks : List ℕ} → Ready shape table rows marks → Summable shape table rows marks s
+      pub trying-summable : {marks keys : List ℕ} → Ready shape table rows marks keys → Summable shape table rows marks keys s
       trying-summable R = record {
         ready = rows-ready R (s .stored) (T .held);
         entries = subst (Each (Within entryLimit)) (sym rows-held) (B .entries);
@@ -146,7 +146,7 @@ module _ {shape : Shape} {table : List ℕ} {rows : List ℤ} (B : Brought shape
       }
 
       -- a sum whose image has the mark 0 has remainder zero
-      pub trying-repeated : {marks : List ℕ} → Ready shape table rows marks
+      pub trying-repeated : {marks keys : List ℕ} → Ready shape table rows marks keys
           → getD marks (s .j * shape .g + s .position) 0 ≡ 0 → isZero (remainderIn shape table rows s) ≡ true
       trying-repeated R e =
           rest-repeated (trying-summable R) (subst (λ (l : List Vector). ZeroBefore G (stateOf s l)) (sym rows-held) (T .before)) e

@@ -31,11 +31,11 @@ pub record Brought (shape : Shape) (table : List ℕ) (rows : List ℤ) : Type 0
   pub entries : Each (Within entryLimit) (vectorsOf (shape .n) rows)
   pub positive : Nonzero (orbits (sequencesIn shape table) (vectorsOf (shape .n) rows))
 
--- .. with the marks of its rows
-pub record Ready (shape : Shape) (table : List ℕ) (rows : List ℤ) (marks : List ℕ) : Type 0 where
+-- .. with the marks and keys of its rows
+pub record Ready (shape : Shape) (table : List ℕ) (rows : List ℤ) (marks keys : List ℕ) : Type 0 where
   pub brought : Brought shape table rows
   pub room : length rows / shape .n * shape .g ≤ length marks
-  pub marked : Marked (sequencesIn shape table) (vectorsOf (shape .n) rows) marks
+  pub marked : Marked (sequencesIn shape table) (vectorsOf (shape .n) rows) marks keys
 
 -- ---- what they find, in lent areas
 

@@ -16,6 +16,7 @@ use completion::is_repeated_sum;
 use completion::next;
 use completion::try_sum;
 use definitions::Fault;
+use reduction::Extent;
 use reduction::Shape;
 use reduction::mark_row;
 use reduction::reduce;
@@ -23,24 +24,21 @@ use sorting::has_other_below;
 use vectors::is_zero;
 use vectors::vector_at;
 
-// Sets the marks of the rows, one row after the other.
-fn mark_brought(rows: &[i32], table: &[u8], shape: Shape, marks: &mut [u8])
+// Sets the marks and keys of the rows, one row after the other.
+fn mark_brought(rows: &[i32], table: &[u8], shape: Shape, marks: &mut [u8], keys: &mut [u64])
     requires brought { ⌜ Brought shape (now table) (now rows) ⌝ }
     requires room { ⌜ length (now rows) / shape .n * shape .g ≤ length (now marks) ⌝ }
     ensures marked { λ _. ⌜
         (let vectors = vectorsOf (shape .n) (now (rows .entry)) in
-        Marked (sequencesIn shape (now (table .entry))) vectors (now (marks .exit)))
+        Marked (sequencesIn shape (now (table .entry))) vectors (now (marks .exit)) (now (keys .exit)))
         ⌝ }
 {
     let n = shape.n;
-    let g = shape.g;
     let count = rows.len() / n;
     let mut r = 0;
     while r < count {
         let row = vector_at(rows, n, r);
-        let from = r * g;
-        let to = from + g;
-        mark_row(row, table, shape, &mut marks[from..to]);
+        mark_row(row, table, shape, r, &mut *marks, &mut *keys);
         r += 1;
     }
 }
@@ -52,8 +50,9 @@ fn generators_fault(
     table: &[u8],
     shape: Shape,
     marks: &[u8],
+    keys: &[u64],
 ) -> Fault
-    requires ready { ⌜ Ready shape (now table) (now rows) (now marks) ⌝ }
+    requires ready { ⌜ Ready shape (now table) (now rows) (now marks) (now keys) ⌝ }
     requires limited { ⌜ within headroom (now generators) ≡ true ⌝ }
     ensures found { λ r. ⌜
         r ≡ generatorsFault shape (now (table .entry)) (now (generators .entry)) (now (rows .entry))
@@ -65,7 +64,14 @@ fn generators_fault(
     let mut p = 0;
     while p < count {
         let generator = vector_at(generators, n, p);
-        let rest = reduce(generator, rows, stored, table, shape, marks);
+        let rest = reduce(
+            generator,
+            rows,
+            table,
+            Extent { shape, k: stored },
+            marks,
+            keys,
+        );
         if !is_zero(rest) {
             return Fault::At {
                 number: 20,
@@ -79,15 +85,15 @@ fn generators_fault(
 
 // Refusal 21: the first sum of step 2 over the rows whose remainder is not zero (Specification 3.2 and 7.2). A sum that
 // was tried before has remainder zero.
-fn sums_fault(rows: &[i32], table: &[u8], shape: Shape, marks: &[u8]) -> Fault
-    requires ready { ⌜ Ready shape (now table) (now rows) (now marks) ⌝ }
+fn sums_fault(rows: &[i32], table: &[u8], shape: Shape, marks: &[u8], keys: &[u64]) -> Fault
+    requires ready { ⌜ Ready shape (now table) (now rows) (now marks) (now keys) ⌝ }
     ensures found { λ r. ⌜ r ≡ triedFault shape (now (table .entry)) (now (rows .entry)) ⌝ }
 {
     let stored = rows.len() / shape.n;
     let mut s = first(stored);
     while s.i < stored {
         if !is_repeated_sum(s, marks, shape.g) {
-            let rest = try_sum(s, rows, table, shape, marks);
+            let rest = try_sum(s, rows, table, shape, marks, keys);
             if !is_zero(rest) {
                 return Fault::At {
                     number: 21,
@@ -121,34 +127,36 @@ fn others_fault(rows: &[i32], table: &[u8], shape: Shape) -> Fault
 }
 
 // Refusals 21 and 22 (Specification 7.2).
-fn list_fault(rows: &[i32], table: &[u8], shape: Shape, marks: &[u8]) -> Fault
-    requires ready { ⌜ Ready shape (now table) (now rows) (now marks) ⌝ }
+fn list_fault(rows: &[i32], table: &[u8], shape: Shape, marks: &[u8], keys: &[u64]) -> Fault
+    requires ready { ⌜ Ready shape (now table) (now rows) (now marks) (now keys) ⌝ }
     ensures found { λ r. ⌜ r ≡ listFault shape (now (table .entry)) (now (rows .entry)) ⌝ }
 {
-    let fault = sums_fault(rows, table, shape, marks);
+    let fault = sums_fault(rows, table, shape, marks, keys);
     match fault {
         Fault::At { number, place } => Fault::At { number, place },
         Fault::None => others_fault(rows, table, shape),
     }
 }
 
-// Refusals 20 to 22 (Specification 5.1 and 7.2). `marks` is room for the marks of all images of all rows.
+// Refusals 20 to 22 (Specification 5.1 and 7.2). `marks` is room for the marks of all images of all rows, and `keys`
+// for the keys of some.
 pub fn wholeness_fault(
     generators: &[i32],
     rows: &[i32],
     table: &[u8],
     shape: Shape,
     marks: &mut [u8],
+    keys: &mut [u64],
 ) -> Fault
     requires brought { ⌜ Brought shape (now table) (now rows) ⌝ }
     requires limited { ⌜ within headroom (now generators) ≡ true ⌝ }
     requires room { ⌜ listLimit * groupLimit ≤ length (now marks) ⌝ }
     ensures found { λ r. ⌜ r ≡ wholenessIn shape (now (table .entry)) generators rows ⌝ }
 {
-    mark_brought(rows, table, shape, &mut *marks);
-    let fault = generators_fault(generators, rows, table, shape, &*marks);
+    mark_brought(rows, table, shape, &mut *marks, &mut *keys);
+    let fault = generators_fault(generators, rows, table, shape, &*marks, &*keys);
     match fault {
         Fault::At { number, place } => Fault::At { number, place },
-        Fault::None => list_fault(rows, table, shape, &*marks),
+        Fault::None => list_fault(rows, table, shape, &*marks, &*keys),
     }
 }

@@ -36,16 +36,19 @@ enum-told c = search needs
 slice-aggregate-wholeness-fault : tie.Need-slice-aggregate-wholeness-fault
 slice-aggregate-wholeness-fault c = search needs
 
+slice-aggregate-wholeness-fault-2 : tie.Need-slice-aggregate-wholeness-fault-2
+slice-aggregate-wholeness-fault-2 c = search needs
+
 wholeness-fault-requires : tie.Need-wholeness-fault-requires
 wholeness-fault-requires c κs =
-    let s = start (c .before) in
-    (brought-ready (s .pre .0) (s .pre .1) (passed (c .before)), (each-within headroom (within-more (omega arith) (within-each entryLimit (s .args .generators .now) (s .pre .1 .limited))), omega arith))
+    let s = start (c .before .before) in
+    (brought-ready (s .pre .0) (s .pre .1) (passed (c .before .before)), (each-within headroom (within-more (omega arith) (within-each entryLimit (s .args .generators .now) (s .pre .1 .limited))), omega arith))
 
 returns : tie.Need-returns
 returns c = met-first _ _ _ (sym (c .before .before .before .rows-fault .ensures) ∙ c .before .fault .given .1)
 
 returns-2 : tie.Need-returns-2
-returns-2 c = c .before .wholeness-fault .ensures ∙ unmet-second _ (passed (c .before .before .before))
+returns-2 c = c .before .before .wholeness-fault .ensures ∙ unmet-second _ (passed (c .before .before .before .before .before))
 
 pub brought-fault-spec : {M : Type 1} → statement M
 brought-fault-spec =
@@ -55,6 +58,7 @@ brought-fault-spec =
     enum-known-fault
     enum-told
     slice-aggregate-wholeness-fault
+    slice-aggregate-wholeness-fault-2
     wholeness-fault-requires
     returns
     returns-2)

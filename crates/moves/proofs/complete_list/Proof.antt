@@ -34,9 +34,9 @@ module _ (c : tie.After-rows-up-to) where
 
 -- the list area keeps its length
 kept : (c : tie.After-complete) →
-    let u = c .before .before .before in
+    let u = c .before .before .before .before in
     length (c .complete .last .1 .0) ≡ size u
-kept c = c .complete .kept .1 .0 ∙ long (c .before .before .before)
+kept c = c .complete .kept .1 .0 ∙ long (c .before .before .before .before)
 
 clear-requires : tie.Need-clear-requires
 clear-requires c κs = search needs
@@ -47,9 +47,12 @@ rows-up-to-requires c κs = search needs
 slice-aggregate-complete : tie.Need-slice-aggregate-complete
 slice-aggregate-complete c = search needs
 
+slice-aggregate-complete-2 : tie.Need-slice-aggregate-complete-2
+slice-aggregate-complete-2 c = search needs
+
 complete-requires : tie.Need-complete-requires
 complete-requires c κs =
-    let u = c .before .before in
+    let u = c .before .before .before in
     let s = start u in
     (cleared-areas (s .pre) (size u) (u .rows-up-to .result) (limit-is u) (cleared u) (omega arith), s .pre .admissible)
 
@@ -65,14 +68,14 @@ slice-aggregate-finish c = search needs
 finish-requires : tie.Need-finish-requires
 finish-requires c κs =
     let k = c .before .before .before in
-    let m = k .before .before .before .before in
-    let u = m .before .before .before in
+    let m = k .before .before .before .before .before in
+    let u = m .before .before .before .before in
     let s = start u in
     let A = after-is (m .complete .ensures) (k .c2 .given .1) in (
       s .pre .table,
       (
         stored-area (s .pre) (size u) (u .rows-up-to .result) (limit-is u) (k .c2 .given .0 .0) A (kept m),
-        omega (arith, stored-few (s .pre) (size u) (u .rows-up-to .result) (limit-is u) (k .c2 .given .0 .0) A (kept m), few (s .pre) (size u) (u .rows-up-to .result) (limit-is u), m .complete .kept .1 .1 .1 .1 .1 .0),
+        omega (arith, stored-few (s .pre) (size u) (u .rows-up-to .result) (limit-is u) (k .c2 .given .0 .0) A (kept m), few (s .pre) (size u) (u .rows-up-to .result) (limit-is u), m .complete .kept .1 .1 .1 .1 .0),
       ),
     )
 
@@ -81,8 +84,8 @@ same-length c = search needs
 
 returns : tie.Need-returns
 returns c =
-    let m = c .before .before .before .before .before in
-    let u = m .before .before .before in
+    let m = c .before .before .before .before .before .before in
+    let u = m .before .before .before .before in
     steps-stopped (start u .pre) (size u) (u .rows-up-to .result) (limit-is u) _ _ (after-is (m .complete .ensures) (c .before .c .given .1))
 
 same-length-2 : tie.Need-same-length-2
@@ -92,8 +95,8 @@ returns-2 : tie.Need-returns-2
 returns-2 c =
     let f = c .before .before in
     let k = f .before .before .before .before in
-    let m = k .before .before .before .before in
-    let u = m .before .before .before in
+    let m = k .before .before .before .before .before in
+    let u = m .before .before .before .before in
     let s = start u in
     let A = after-is (m .complete .ensures) (k .c2 .given .1) in
     steps-ended (s .pre) (size u) (u .rows-up-to .result) (limit-is u) (k .c2 .given .0 .0) A (kept m) (f .finish .result) (f .finish .ensures)
@@ -105,6 +108,7 @@ complete-list-spec =
     clear-requires
     rows-up-to-requires
     slice-aggregate-complete
+    slice-aggregate-complete-2
     complete-requires
     enum-known-c
     enum-known-c-2

@@ -16,23 +16,23 @@ use Rattle.wholeness.proofs.sums_fault.Statement.{statement}
 use Rattle.wholeness.proofs.sums_fault.Tie as tie
 
 abbrev Inv-loop : tie.InvT-loop
-Inv-loop rows table shape marks stored s₀ s = Trying shape table rows s
+Inv-loop rows table shape marks keys stored s₀ s = Trying shape table rows s
 
 abbrev μ-loop : tie.MeasureT-loop
-μ-loop rows table shape marks stored s₀ s = allSums shape table rows - s .sums
+μ-loop rows table shape marks keys stored s₀ s = allSums shape table rows - s .sums
 
 div-stored : tie.Need-div-stored Inv-loop μ-loop
-div-stored c = c .before .before .before .pre .brought .rowsOfTable .positive
+div-stored c = c .before .before .before .before .pre .brought .rowsOfTable .positive
 
 first-requires : tie.Need-first-requires Inv-loop μ-loop
 first-requires c κs = search needs
 
 loop-holds : tie.Need-loop-holds Inv-loop μ-loop
-loop-holds c = rw (c .first .ensures) (trying-start (c .before .before .before .before .pre .brought))
+loop-holds c = rw (c .first .ensures) (trying-start (c .before .before .before .before .before .pre .brought))
 
 -- where the loop began
 abbrev start : tie.At-loop Inv-loop μ-loop → tie.Start Inv-loop μ-loop
-start a = a .before .before .before .before .before
+start a = a .before .before .before .before .before .before
 
 is-repeated-sum-requires : tie.Need-is-repeated-sum-requires Inv-loop μ-loop
 is-repeated-sum-requires c κs =
@@ -50,8 +50,8 @@ try-sum-requires c κs =
 is-zero-requires : tie.Need-is-zero-requires Inv-loop μ-loop
 is-zero-requires c κs = tt
 
-add-t14 : tie.Need-add-t14 Inv-loop μ-loop
-add-t14 c =
+add-t15 : tie.Need-add-t15 Inv-loop μ-loop
+add-t15 c =
     let h = c .before .before .before .before .before .before in
     let a = h .before .before in
     omega (arith, trying-countable (start a .pre .brought) (a .loop .inv) (h .if1 .taken))
@@ -111,7 +111,7 @@ sums-fault-spec =
     is-repeated-sum-requires
     try-sum-requires
     is-zero-requires
-    add-t14
+    add-t15
     returns
     next-requires
     loop-less
