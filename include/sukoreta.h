@@ -129,7 +129,7 @@ size_t sukoreta_answer_limit(void);
  *           its area; 13 where the list rows in use are taken, at 0 before the first sum; 16 where there are more
  *           pieces than rows of their area.
  *
- * Stack: a lent call takes about 151,000 bytes, a call on an order file up to 247,000. No memory is allocated, and
+ * Stack: a lent call takes about 252,000 bytes, a call on an order file up to 348,000. No memory is allocated, and
  * nothing is kept from one call to the next: calls in several threads need no lock.
  */
 int64_t sukoreta_lent_list(size_t n, const int32_t *generators, size_t generators_length, const uint8_t *exchanges,

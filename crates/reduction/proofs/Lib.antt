@@ -4,5 +4,6 @@ pub mod Keeping
 pub mod Lent
 pub mod Marking
 pub mod Passes
+pub mod Glances
 pub mod Positions
 pub mod Searches

@@ -86,7 +86,7 @@ word-at-requires : tie.Need-word-at-requires Inv-loop μ-loop
 word-at-requires c κs =
     let o = c .before .before .before in
     let a = start o .args in
-    part-room (a .order .now) (o .operands-of .result) 4 (a .count) (c .before .loop .j) (lies o) (omega arith)
+    omega (arith, part-room (a .order .now) (o .operands-of .result) 4 (a .count) (c .before .loop .j) (lies o) (omega arith))
 
 cast-area : tie.Need-cast-area Inv-loop μ-loop
 cast-area c = rw (toZ-ofZ w32 (c .word-at .result) (record { sfits = c .word-at .ok })) (wide-fits (c .word-at .result) (record { sfits = c .word-at .ok }))
