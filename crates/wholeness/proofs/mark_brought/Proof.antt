@@ -15,7 +15,7 @@ use Rattle.vectors.specs.Bounds.{headroom}
 use Rattle.vectors.proofs.Rows.{vectors-within}
 use Rattle.reduction.specs.Areas.{sequencesIn}
 use Rattle.reduction.specs.Marks.{Marked}
-use Rattle.reduction.proofs.Among.{marked-none}
+use Rattle.reduction.proofs.Marking.{marked-none}
 use Rattle.wholeness.proofs.Given.{one-more, rows-limited}
 use Rattle.wholeness.proofs.mark_brought.Statement.{statement}
 use Rattle.wholeness.proofs.mark_brought.Tie as tie
