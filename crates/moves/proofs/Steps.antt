@@ -24,7 +24,8 @@ use Rattle.theory.proofs.Rows.{rows-count}
 use Rattle.vectors.specs.Bounds.{headroom}
 use Rattle.admission.proofs.Tests.{rows-inside}
 use Rattle.reduction.specs.declared.Shape.{Shape}
-use Rattle.reduction.specs.Areas.{Area, rowsAt, sequencesIn}
+use Rattle.reduction.specs.Areas.{rowsAt, sequencesIn}
+use Rattle.reduction.specs.Marks.{RowsMarked}
 use Rattle.completion.specs.declared.State.{State}
 use Rattle.completion.specs.declared.Completion.the-variants as case
 use Rattle.completion.specs.Machine.{stateIn, sizesOf, completedIn, Areas, After}
@@ -77,14 +78,20 @@ module _ {shape : Shape} {generators : List ℤ} {group : List ℕ} (G : Grouped
       pub stored-few : s .stored ≤ limit
       stored-few = omega (arith, sound .1 .rowsIn, rows-count n (s .stored) list)
 
-      pub stored-area : Area n (s .stored) list
-      stored-area = record {
-        holds = omega (arith, mul-le-mul-right {m = s .stored} {n = limit} n stored-few, inside, long);
-        limited = A .held .limited;
+      -- the rows are held with their marks and keys
+      pub stored-marked : listLimit * groupLimit ≤ length marks → RowsMarked shape (s .stored) group list marks keys
+      stored-marked m = record {
+        isTable = G .table;
+        area = record {
+          holds = omega (arith, mul-le-mul-right {m = s .stored} {n = limit} n stored-few, inside, long);
+          limited = A .held .limited;
+        };
+        room = let l : s .stored ≤ listLimit = omega (arith, stored-few, few) in omega (arith, mul-le-mul l (G .small), m);
+        marked = A .held .marked;
       }
 
       -- and then step 5
-      pub steps-ended : {final : List ℤ} (count : ℕ) → Finished shape (s .stored) group list final count
+      pub steps-ended : {final : List ℤ} (count : ℕ) → Finished (record { shape = shape; k = s .stored }) group list final count
           → Finds n listSize (length group) (listingWith n listSize table generators) final group (listed.Found count (shape .g) (s .stored) (s .sums))
       unfolding listingOf
       steps-ended {final} count F = record {

@@ -23,6 +23,7 @@ use definitions::limits::GROUP_LIMIT;
 use definitions::limits::LIST_LIMIT;
 use definitions::limits::PIECE_WIDTH;
 use definitions::limits::SPLIT_LIMIT;
+use reduction::Extent;
 use reduction::Shape;
 use vectors::clear;
 use vectors::clear_bytes;
@@ -78,7 +79,9 @@ fn complete_list(generators: &[i32], list: &mut [i32], group: &[u8], shape: Shap
         Completion::Stopped { number, place } => Listed::Refused { number, place },
         Completion::Running(s) => {
             let stored = s.stored;
-            let rows = sorting::finish(&mut *list, stored, group, shape, &mut marks);
+            let mut flags = [0u8; LIST_LIMIT];
+            let extent = Extent { shape, k: stored };
+            let rows = sorting::finish(&mut *list, group, extent, &marks, &keys, &mut flags);
             Listed::Found {
                 rows: rows as u64,
                 members: shape.g as u64,

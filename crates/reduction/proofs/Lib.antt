@@ -2,6 +2,7 @@
 pub mod Keeping
 pub mod Lent
 pub mod Marking
+pub mod Others
 pub mod Passes
 pub mod Positions
 pub mod Ready

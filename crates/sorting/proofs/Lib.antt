@@ -1,5 +1,4 @@
 -- Laws that the proofs of step 5 share.
 pub mod Stored
-pub mod Others
 pub mod Sorting
 pub mod Turns

@@ -22,7 +22,7 @@ use Rattle.theory.proofs.Bounds.{Within, each-within, within-more}
 use Rattle.vectors.specs.Bounds.{headroom}
 use Rattle.reduction.specs.declared.Shape.{Shape}
 use Rattle.reduction.specs.Areas.{Area, Nonzero, rowsAt, sequencesIn}
-use Rattle.reduction.specs.Marks.{Marked, RowsReady}
+use Rattle.reduction.specs.Marks.{Marked, RowsMarked, RowsReady}
 use Rattle.wholeness.specs.Lists.{Brought, Ready}
 
 -- the numbers of rows, one row after the other, keep the limit that the rows as vectors keep
@@ -72,16 +72,23 @@ module _ {shape : Shape} {table : List ℕ} {rows : List ℤ} (B : Brought shape
   pub marks-room : {size : ℕ} → listLimit * groupLimit ≤ size → length rows / shape .n * shape .g ≤ size
   marks-room h = omega (arith, mul-le-mul (B .few) (B .small), h)
 
--- the rows, of which there are k, with their marks and keys: vectors can be reduced by them
-pub rows-ready : {shape : Shape} {table : List ℕ} {rows : List ℤ} {marks keys : List ℕ} → Ready shape table rows marks keys
-    → (k : ℕ) → k ≡ length rows / shape .n → RowsReady shape k table rows marks keys
-rows-ready {shape} {table} {rows} {marks} {keys} R k e =
-    let same = rows-same (shape .n) k rows e in
-    let B = R .brought in
-    record {
-      isTable = B .rowsOfTable;
-      area = rw e (area-in B);
-      room = rw e (R .room);
-      marked = subst (λ (l : List Vector). Marked (sequencesIn shape table) l marks keys) (sym same) (R .marked);
-      nonzero = subst (λ (l : List Vector). Nonzero (orbits (sequencesIn shape table) l)) (sym same) (B .positive);
-    }
+-- the rows, of which there are k, with their marks and keys
+module _ {shape : Shape} {table : List ℕ} {rows : List ℤ} {marks keys : List ℕ} (R : Ready shape table rows marks keys) (k : ℕ)
+    (e : k ≡ length rows / shape .n) where
+  same : rowsAt (shape .n) k rows ≡ vectorsOf (shape .n) rows
+  same = rows-same (shape .n) k rows e
+
+  pub rows-marked : RowsMarked shape k table rows marks keys
+  rows-marked = record {
+    isTable = R .brought .rowsOfTable;
+    area = rw e (area-in (R .brought));
+    room = rw e (R .room);
+    marked = subst (λ (l : List Vector). Marked (sequencesIn shape table) l marks keys) (sym same) (R .marked);
+  }
+
+  -- vectors can be reduced by them
+  pub rows-ready : RowsReady shape k table rows marks keys
+  rows-ready = record {
+    held = rows-marked;
+    nonzero = subst (λ (l : List Vector). Nonzero (orbits (sequencesIn shape table) l)) (sym same) (R .brought .positive);
+  }

@@ -18,9 +18,9 @@ use completion::try_sum;
 use definitions::Fault;
 use reduction::Extent;
 use reduction::Shape;
+use reduction::images::has_other_below;
 use reduction::mark_row;
 use reduction::reduce;
-use sorting::has_other_below;
 use vectors::is_zero;
 use vectors::vector_at;
 
@@ -108,14 +108,14 @@ fn sums_fault(rows: &[i32], table: &[u8], shape: Shape, marks: &[u8], keys: &[u6
 }
 
 // Refusal 22: the first row that has an image of another row below it (Specification 7.2).
-fn others_fault(rows: &[i32], table: &[u8], shape: Shape) -> Fault
-    requires brought { ⌜ Brought shape (now table) (now rows) ⌝ }
+fn others_fault(rows: &[i32], table: &[u8], shape: Shape, marks: &[u8], keys: &[u64]) -> Fault
+    requires ready { ⌜ Ready shape (now table) (now rows) (now marks) (now keys) ⌝ }
     ensures found { λ r. ⌜ r ≡ othersFault shape (now (table .entry)) (now (rows .entry)) ⌝ }
 {
     let stored = rows.len() / shape.n;
     let mut row = 0;
     while row < stored {
-        if has_other_below(rows, stored, table, shape, row) {
+        if has_other_below(row, rows, table, Extent { shape, k: stored }, marks, keys) {
             return Fault::At {
                 number: 22,
                 place: row as u64,
@@ -134,7 +134,7 @@ fn list_fault(rows: &[i32], table: &[u8], shape: Shape, marks: &[u8], keys: &[u6
     let fault = sums_fault(rows, table, shape, marks, keys);
     match fault {
         Fault::At { number, place } => Fault::At { number, place },
-        Fault::None => others_fault(rows, table, shape),
+        Fault::None => others_fault(rows, table, shape, marks, keys),
     }
 }
 

@@ -9,7 +9,7 @@ use Rattle.definitions.specs.Limits.{listLimit}
 use Rattle.definitions.specs.Lent.{filled, listRows}
 use Rattle.theory.proofs.Areas.{length-filled}
 use Rattle.completion.proofs.Turns.{after-is}
-use Rattle.moves.proofs.Steps.{few, cleared-areas, steps-stopped, stored-few, stored-area, steps-ended}
+use Rattle.moves.proofs.Steps.{few, cleared-areas, steps-stopped, stored-few, stored-marked, steps-ended}
 use borrow.Author.Needs.{needs}
 use Rattle.moves.proofs.complete_list.Statement.{statement}
 use Rattle.moves.proofs.complete_list.Tie as tie
@@ -65,18 +65,22 @@ enum-known-c-2 c = search needs
 slice-aggregate-finish : tie.Need-slice-aggregate-finish
 slice-aggregate-finish c = search needs
 
+slice-aggregate-finish-2 : tie.Need-slice-aggregate-finish-2
+slice-aggregate-finish-2 c = search needs
+
+slice-aggregate-finish-3 : tie.Need-slice-aggregate-finish-3
+slice-aggregate-finish-3 c = search needs
+
 finish-requires : tie.Need-finish-requires
 finish-requires c κs =
-    let k = c .before .before .before in
+    let k = c .before .before .before .before .before in
     let m = k .before .before .before .before .before in
     let u = m .before .before .before .before in
     let s = start u in
-    let A = after-is (m .complete .ensures) (k .c2 .given .1) in (
-      s .pre .table,
-      (
-        stored-area (s .pre) (size u) (u .rows-up-to .result) (limit-is u) (k .c2 .given .0 .0) A (kept m),
-        omega (arith, stored-few (s .pre) (size u) (u .rows-up-to .result) (limit-is u) (k .c2 .given .0 .0) A (kept m), few (s .pre) (size u) (u .rows-up-to .result) (limit-is u), m .complete .kept .1 .1 .1 .1 .0),
-      ),
+    let A = after-is (m .complete .ensures) (k .c2 .given .1) in
+    let limit = u .rows-up-to .result in (
+      stored-marked (s .pre) (size u) limit (limit-is u) (k .c2 .given .0 .0) A (kept m) (omega (arith, m .complete .kept .1 .1 .1 .1 .0)),
+      omega (arith, stored-few (s .pre) (size u) limit (limit-is u) (k .c2 .given .0 .0) A (kept m), few (s .pre) (size u) limit (limit-is u)),
     )
 
 same-length : tie.Need-same-length
@@ -94,7 +98,7 @@ same-length-2 c = search needs
 returns-2 : tie.Need-returns-2
 returns-2 c =
     let f = c .before .before in
-    let k = f .before .before .before .before in
+    let k = f .before .before .before .before .before .before in
     let m = k .before .before .before .before .before in
     let u = m .before .before .before .before in
     let s = start u in
@@ -113,6 +117,8 @@ complete-list-spec =
     enum-known-c
     enum-known-c-2
     slice-aggregate-finish
+    slice-aggregate-finish-2
+    slice-aggregate-finish-3
     finish-requires
     same-length
     returns
