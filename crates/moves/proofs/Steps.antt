@@ -29,7 +29,7 @@ use Rattle.reduction.specs.Marks.{RowsMarked}
 use Rattle.completion.specs.declared.State.{State}
 use Rattle.completion.specs.declared.Completion.the-variants as case
 use Rattle.completion.specs.Machine.{stateIn, sizesOf, completedIn, Areas, After}
-use Rattle.sorting.specs.Marks.{Finished}
+use Rattle.sorting.specs.Flags.{Finished}
 use Rattle.moves.specs.declared.Listed.the-variants as listed
 use Rattle.moves.specs.Found.{Grouped, listingWith, listedOf, Finds}
 use Rattle.moves.proofs.Ends.{finds-refused}

@@ -46,16 +46,16 @@ owed Paired = 0
 owed Done = 0
 
 -- the vectors of a service
-abbrev pub vectorsOf : Service → ℕ
-vectorsOf ListService = 0
-vectorsOf Split = 1
-vectorsOf Check = 0
+abbrev pub vectorCount : Service → ℕ
+vectorCount ListService = 0
+vectorCount Split = 1
+vectorCount Check = 0
 
 -- those that are still to be read
 abbrev due : Service → Phase → ℕ
-due v Empty = vectorsOf v
-due v Generators = vectorsOf v
-due v Exchanges = vectorsOf v
+due v Empty = vectorCount v
+due v Generators = vectorCount v
+due v Exchanges = vectorCount v
 due v Vectors = 0
 due v Rows = 0
 due v Paired = 0
@@ -91,7 +91,7 @@ head-owed : {h : Phase} → Head h → owed h ≡ 0
 head-owed generators = refl
 head-owed exchanges = refl
 
-head-due : (v : Service) {h : Phase} → Head h → due v h ≡ vectorsOf v
+head-due : (v : Service) {h : Phase} → Head h → due v h ≡ vectorCount v
 head-due v generators = refl
 head-due v exchanges = refl
 
@@ -320,7 +320,7 @@ pub record Accepted (v : Service) (order : List ℕ) (c : Counts) : Type 0 where
   pub exchanges-many : many exchangeCode (commandsIn order c) ≡ c .exchanges
   pub rows-many : many rowCode (commandsIn order c) ≡ c .rows
   pub coefficients-many : many coefficientsCode (commandsIn order c) ≡ c .rows
-  pub vectors-many : many vectorCode (commandsIn order c) ≡ vectorsOf v
+  pub vectors-many : many vectorCode (commandsIn order c) ≡ vectorCount v
 
 pub accepted : (v : Service) (order : List ℕ) (c : Counts) → scanOf v order ≡ Counted c → Accepted v order c
 unfolding scanOf commandsIn

@@ -13,7 +13,7 @@ use Rattle.orders.specs.declared.Service.the-variants.{List as ListServi
 use Rattle.orders.specs.declared.Counts.{Counts}
 use Rattle.orders.specs.Grammar.{oneIf}
 use Rattle.orders.specs.Scan.{passed, admitted, stepFrom, stepOf, after, scanFrom, scanOf}
-use Rattle.orders.specs.Operands.{commandsFrom, commandsIn, numbersOf, gathered, generatorsIn, exchangesIn, rowsIn, coefficientsIn, vectorIn}
+use Rattle.orders.specs.Operands.{commandsFrom, commandsIn, commandNumbers, gathered, generatorsIn, exchangesIn, rowsIn, coefficientsIn, vectorIn}
 use Rattle.orders.specs.Examples.{Example, forAny, forList, forSplit, forCheck, splitFile, checkFile}
 use Rattle.orders.proofs.Sizes.{lengthMost}
 
@@ -55,27 +55,27 @@ checkCounts = record { cells = 2; generators = 1; exchanges = 1; rows = 1 }
 
 -- numbers of four bytes, one below zero
 pub split-vector : vectorIn splitFile splitCounts ≡ negsuc 1 ∷ pos 2 ∷ []
-unfolding range commandOf commandAt signedOf littleAt commandsFrom commandsIn numbersOf gathered vectorIn splitFile
+unfolding range commandOf commandAt signedOf littleAt commandsFrom commandsIn commandNumbers gathered vectorIn splitFile
 split-vector = refl
 
 -- numbers of two bytes, one below zero
 pub check-generators : generatorsIn checkFile checkCounts ≡ pos 1 ∷ negsuc 0 ∷ []
-unfolding range commandOf commandAt signedOf littleAt commandsFrom commandsIn numbersOf gathered generatorsIn checkFile
+unfolding range commandOf commandAt signedOf littleAt commandsFrom commandsIn commandNumbers gathered generatorsIn checkFile
 check-generators = refl
 
 -- cells
 pub check-exchanges : exchangesIn checkFile checkCounts ≡ 2 ∷ 1 ∷ []
-unfolding range commandOf commandAt commandsFrom commandsIn numbersOf gathered exchangesIn checkFile
+unfolding range commandOf commandAt commandsFrom commandsIn commandNumbers gathered exchangesIn checkFile
 check-exchanges = refl
 
 -- numbers of two bytes, behind the exchanges
 pub check-rows : rowsIn checkFile checkCounts ≡ pos 1 ∷ negsuc 0 ∷ []
-unfolding range commandOf commandAt signedOf littleAt commandsFrom commandsIn numbersOf gathered rowsIn checkFile
+unfolding range commandOf commandAt signedOf littleAt commandsFrom commandsIn commandNumbers gathered rowsIn checkFile
 check-rows = refl
 
 -- a number of four bytes, behind the row
 pub check-coefficients : coefficientsIn checkFile checkCounts ≡ pos 1 ∷ []
-unfolding range commandOf commandAt signedOf littleAt commandsFrom commandsIn numbersOf gathered coefficientsIn checkFile
+unfolding range commandOf commandAt signedOf littleAt commandsFrom commandsIn commandNumbers gathered coefficientsIn checkFile
 check-coefficients = refl
 
 -- ---- the longest file that is accepted is no longer than the first bytes

@@ -17,7 +17,7 @@ use Rattle.orders.specs.declared.Service.{Service}
 use Rattle.orders.specs.declared.Service.the-variants.{Split}
 use Rattle.orders.specs.declared.Counts.{Counts}
 use Rattle.orders.specs.Grammar.{oneIf}
-use Rattle.orders.specs.Operands.{signedNumbers, byteNumbers, numbersOf, gathered, many, commandsIn, generatorsIn, exchangesIn, rowsIn, coefficientsIn, vectorIn}
+use Rattle.orders.specs.Operands.{signedNumbers, byteNumbers, commandNumbers, gathered, many, commandsIn, generatorsIn, exchangesIn, rowsIn, coefficientsIn, vectorIn}
 use Rattle.orders.proofs.Commands.{Accepted}
 
 -- `count` signed numbers
@@ -30,19 +30,19 @@ byte-count count part = length-map (range 0 count) (byteAt part) ∙ range-lengt
 
 module _ {A : Type 0} (code : ℕ) (decode : List ℕ → List A) (order : List ℕ) where
   -- those of a command with the byte
-  pub numbers-here : (x : Command) → codeOf x ≡ code → numbersOf code decode order x ≡ decode (drop (operandsOf x) order)
-  unfolding numbersOf
+  pub numbers-here : (x : Command) → codeOf x ≡ code → commandNumbers code decode order x ≡ decode (drop (operandsOf x) order)
+  unfolding commandNumbers
   numbers-here x e = rw (eq-eqb (codeOf x) code e)
 
   -- another command has none
-  pub numbers-none : (x : Command) → (codeOf x ≡ code → ⊥) → numbersOf code decode order x ≡ []
-  unfolding numbersOf
+  pub numbers-none : (x : Command) → (codeOf x ≡ code → ⊥) → commandNumbers code decode order x ≡ []
+  unfolding commandNumbers
   numbers-none x e = rw (ne-eqb (codeOf x) code e)
 
   module _ (width : ℕ) (long : (part : List ℕ) → length (decode part) ≡ width) where
     -- how many a command has
-    numbers-count : (x : Command) → length (numbersOf code decode order x) ≡ oneIf x code * width
-    unfolding numbersOf oneIf
+    numbers-count : (x : Command) → length (commandNumbers code decode order x) ≡ oneIf x code * width
+    unfolding commandNumbers oneIf
     numbers-count x = go (eqb (codeOf x) code)
       where
         go : (b : Bool) → length (if b then decode (drop (operandsOf x) order) else []) ≡ (if b then 1 else 0) * width
@@ -54,7 +54,7 @@ module _ {A : Type 0} (code : ℕ) (decode : List ℕ → List A) (order : List 
     unfolding gathered many
     gathered-count [] = omega arith
     gathered-count (x ∷ commands) =
-        length-append (numbersOf code decode order x) (gathered code decode order commands)
+        length-append (commandNumbers code decode order x) (gathered code decode order commands)
         ∙ (let h = numbers-count x in let t = gathered-count commands in omega arith)
 
 -- ---- the lists that an accepted order lends

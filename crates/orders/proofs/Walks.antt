@@ -22,7 +22,7 @@ use Rattle.commands.specs.Commands.{generatorCode, exchangeCode, rowCode, coeff
 use Rattle.commands.specs.Decode.{byteAt, signedAt}
 use Rattle.commands.proofs.Known.{known-at, of-same-code}
 use Rattle.orders.specs.declared.Counts.{Counts}
-use Rattle.orders.specs.Operands.{LiesIn, Readable, signedNumbers, byteNumbers, numbersOf, gathered, commandsBy, commandsFrom, commandsIn}
+use Rattle.orders.specs.Operands.{LiesIn, Readable, signedNumbers, byteNumbers, commandNumbers, gathered, commandsBy, commandsFrom, commandsIn}
 use Rattle.orders.specs.Walk.{Holds, Taken}
 use Rattle.orders.proofs.Commands.{next-commands}
 
@@ -172,20 +172,20 @@ module _ {A : Type 0} (code : ℕ) (decode : List ℕ → List A) (order : List 
     walk-inside w = each-first (subst (Each (LiesIn order (c .cells) (c .generators))) (first-left w) (w .whole))
 
     -- there is room for its numbers
-    pub walk-room : Walk now at filled → length total ≤ length before → filled + length (numbersOf code decode order x) ≤ length now
+    pub walk-room : Walk now at filled → length total ≤ length before → filled + length (commandNumbers code decode order x) ≤ length now
     unfolding gathered
     walk-room w room =
         let rest = commandsFrom (stepped w .0) order (c .cells) (c .generators) next in
         let m = filled-most now at filled w in
-        let e : length (gathered code decode order (commandsFrom (w .fuel) order (c .cells) (c .generators) at)) ≡ length (numbersOf code decode order x) + length (gathered code decode order rest) =
-        ap (λ (l : List Command). length (gathered code decode order l)) (first-left w) ∙ length-append (numbersOf code decode order x) (gathered code decode order rest) in
+        let e : length (gathered code decode order (commandsFrom (w .fuel) order (c .cells) (c .generators) at)) ≡ length (commandNumbers code decode order x) + length (gathered code decode order rest) =
+        ap (λ (l : List Command). length (gathered code decode order l)) (first-left w) ∙ length-append (commandNumbers code decode order x) (gathered code decode order rest) in
         omega (arith, walk-length now at filled w room)
 
     -- its numbers are taken
-    pub walk-turn : (now′ : List A) (r : ℕ) → Walk now at filled → Taken (numbersOf code decode order x) filled now now′ r → length total ≤ length before → Walk now′ next r
+    pub walk-turn : (now′ : List A) (r : ℕ) → Walk now at filled → Taken (commandNumbers code decode order x) filled now now′ r → length total ≤ length before → Walk now′ next r
     unfolding gathered
     walk-turn now′ r w taken room =
-        let xs = numbersOf code decode order x in
+        let xs = commandNumbers code decode order x in
         let rest = commandsFrom (stepped w .0) order (c .cells) (c .generators) next in
         let f = stepped w .1 in
         let starts = known-at order at x k in

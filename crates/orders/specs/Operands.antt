@@ -69,15 +69,15 @@ abbrev pub byteNumbers : (count : ℕ) (part : List ℕ) → List ℕ
 byteNumbers count part = map (byteAt part) (range 0 count)
 
 -- the numbers of a command with the byte `code`; none of another
-unfoldable pub numbersOf : {A : Type 0} (code : ℕ) (decode : List ℕ → List A) (order : List ℕ) → Command → List A
-numbersOf code decode order command =
+unfoldable pub commandNumbers : {A : Type 0} (code : ℕ) (decode : List ℕ → List A) (order : List ℕ) → Command → List A
+commandNumbers code decode order command =
     if eqb (codeOf command) code then decode (drop (operandsOf command) order) else []
 
 -- the numbers of all commands with the byte `code`, in their sequence
 unfoldable pub gathered : {A : Type 0} (code : ℕ) (decode : List ℕ → List A) (order : List ℕ) → List Command → List A
 gathered code decode order [] = []
 gathered code decode order (command ∷ commands) =
-    numbersOf code decode order command ++ gathered code decode order commands
+    commandNumbers code decode order command ++ gathered code decode order commands
 
 -- the numbers of the GENERATOR commands, two bytes each
 unfoldable pub generatorsIn : (order : List ℕ) → Counts → List ℤ

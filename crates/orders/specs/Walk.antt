@@ -12,7 +12,7 @@ use Rattle.commands.specs.declared.Command.{Command}
 use Rattle.commands.specs.Commands.{coefficientsCode, exchangeCode, codeOf, operandsOf, widthOf}
 use Rattle.orders.specs.declared.Counts.{Counts}
 use Rattle.orders.specs.declared.operands.Kind.{Kind}
-use Rattle.orders.specs.Operands.{commandsIn, signedNumbers, byteNumbers, numbersOf, gathered}
+use Rattle.orders.specs.Operands.{commandsIn, signedNumbers, byteNumbers, commandNumbers, gathered}
 
 -- the bytes that a signed number takes
 abbrev pub SignedSize : (size : ℕ) → Type 0
@@ -24,18 +24,18 @@ signedIn kind = signedNumbers (kind .size) (kind .count)
 
 -- those of a command of a kind in an order, and those of all of them
 abbrev pub kindNumbers : Kind → (order : List ℕ) → Command → List ℤ
-kindNumbers kind order command = numbersOf (kind .code) (signedIn kind) order command
+kindNumbers kind order command = commandNumbers (kind .code) (signedIn kind) order command
 
 abbrev pub kindGathered : Kind → (order : List ℕ) → Counts → List ℤ
 kindGathered kind order c = gathered (kind .code) (signedIn kind) order (commandsIn order c)
 
 -- the cells of an EXCHANGE
 abbrev pub cellNumbers : (count : ℕ) (order : List ℕ) → Command → List ℕ
-cellNumbers count order command = numbersOf exchangeCode (byteNumbers count) order command
+cellNumbers count order command = commandNumbers exchangeCode (byteNumbers count) order command
 
 -- the numbers of COEFFICIENTS
 abbrev pub wideNumbers : (count : ℕ) (order : List ℕ) → Command → List ℤ
-wideNumbers count order command = numbersOf coefficientsCode (signedNumbers 4 count) order command
+wideNumbers count order command = commandNumbers coefficientsCode (signedNumbers 4 count) order command
 
 -- the operands of a command with the byte `code` have room for the numbers
 abbrev pub Holds : (code bytes count : ℕ) → Counts → Type 0

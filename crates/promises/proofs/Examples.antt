@@ -29,7 +29,7 @@ use Rattle.orders.specs.declared.Service.the-variants.{List as ListService, Spl
 use Rattle.orders.specs.Grammar.{oneIf}
 use Rattle.orders.specs.Scan.{passed, admitted, stepFrom, stepOf, after}
 use Rattle.orders.specs.Scan.{scanFrom, scanOf}
-use Rattle.orders.specs.Operands.{commandsFrom, commandsIn, numbersOf as commandNumbers, gathered, generatorsIn, exchangesIn, vectorIn}
+use Rattle.orders.specs.Operands.{commandsFrom, commandsIn, commandNumbers, gathered, generatorsIn, exchangesIn, vectorIn}
 use Rattle.answers.specs.Text.{digits, decimal}
 use Rattle.answers.specs.Answers.{numbersText, lineText, linesText, headText, tableText, movesText, splitText}
 use Rattle.answers.specs.Answers.{refusedText, answerText}

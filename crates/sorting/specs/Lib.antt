@@ -1,2 +1,2 @@
 -- What the functions of step 5 say and ask.
-pub mod Marks
+pub mod Flags

@@ -6,7 +6,7 @@ use native.Mathlib.Omega.{arith}
 use lib.ListN.{length, take, drop}
 use borrow.Author.Needs.{needs}
 use Rattle.commands.specs.Commands.{exchangeCode, codeOf}
-use Rattle.orders.specs.Operands.{byteNumbers, numbersOf}
+use Rattle.orders.specs.Operands.{byteNumbers, commandNumbers}
 use Rattle.orders.proofs.Numbers.{byte-count, numbers-here, numbers-none}
 use Rattle.orders.proofs.Walks.{Laying, laying-start, laying-turn, laying-end, byte-at, taken-none}
 use Rattle.orders.proofs.Parts.{part-whole, part-room}
@@ -26,7 +26,7 @@ returns : tie.Need-returns Inv-loop μ-loop
 returns c =
     let a = c .before .before .before .before .args in
     let e = c .before .code-of .ensures in
-    taken-none (numbersOf exchangeCode (byteNumbers (a .count)) (a .order .now) (a .command)) (a .filled) (a .area .now)
+    taken-none (commandNumbers exchangeCode (byteNumbers (a .count)) (a .order .now) (a .command)) (a .filled) (a .area .now)
     (numbers-none exchangeCode (byteNumbers (a .count)) (a .order .now) (a .command) (λ k. c .if1 .taken (e ∙ k)))
 
 operands-of-requires : tie.Need-operands-of-requires Inv-loop μ-loop
@@ -45,7 +45,7 @@ module _ (c : tie.After-operands-of Inv-loop μ-loop) where
   same-code = sym (c .before .before .code-of .ensures) ∙ c .before .if1 .left
 
   -- its numbers are those of the part
-  here : numbersOf exchangeCode (byteNumbers (start .args .count)) (start .args .order .now) (start .args .command) ≡ byteNumbers (start .args .count) part
+  here : commandNumbers exchangeCode (byteNumbers (start .args .count)) (start .args .order .now) (start .args .command) ≡ byteNumbers (start .args .count) part
   here =
       let a = start .args in
       numbers-here exchangeCode (byteNumbers (a .count)) (a .order .now) (a .command) same-code

@@ -9,7 +9,7 @@ use mir.Syntax.{w32}
 use mir.ValLaws.{toZ-ofZ}
 use borrow.Author.Needs.{needs}
 use Rattle.commands.specs.Commands.{codeOf}
-use Rattle.orders.specs.Operands.{numbersOf}
+use Rattle.orders.specs.Operands.{commandNumbers}
 use Rattle.orders.specs.Walk.{signedIn}
 use Rattle.orders.proofs.Parts.{part-whole, part-room}
 use Rattle.orders.proofs.Numbers.{numbers-here, numbers-none, signed-count}
@@ -30,7 +30,7 @@ returns : tie.Need-returns Inv-loop μ-loop
 returns c =
     let a = c .before .before .before .before .args in
     let e = c .before .before .code-of .ensures in
-    taken-none (numbersOf (a .kind .code) (signedIn (a .kind)) (a .order .now) (a .command)) (a .filled) (a .area .now)
+    taken-none (commandNumbers (a .kind .code) (signedIn (a .kind)) (a .order .now) (a .command)) (a .filled) (a .area .now)
     (numbers-none (a .kind .code) (signedIn (a .kind)) (a .order .now) (a .command) (λ k. c .if1 .taken (e ∙ k)))
 
 operands-of-requires : tie.Need-operands-of-requires Inv-loop μ-loop
@@ -49,7 +49,7 @@ module _ (c : tie.After-operands-of Inv-loop μ-loop) where
   same-code = sym (c .before .before .before .code-of .ensures) ∙ c .before .if1 .left
 
   -- its numbers are those of the part
-  here : numbersOf (start .args .kind .code) (signedIn (start .args .kind)) (start .args .order .now) (start .args .command) ≡ signedIn (start .args .kind) part
+  here : commandNumbers (start .args .kind .code) (signedIn (start .args .kind)) (start .args .order .now) (start .args .command) ≡ signedIn (start .args .kind) part
   here =
       let a = start .args in
       numbers-here (a .kind .code) (signedIn (a .kind)) (a .order .now) (a .command) same-code

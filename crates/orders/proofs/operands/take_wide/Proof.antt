@@ -10,7 +10,7 @@ use mir.ValLaws.{toZ-ofZ}
 use borrow.Author.Needs.{needs}
 use Rattle.vectors.proofs.Cells.{wide-fits, wide-read}
 use Rattle.commands.specs.Commands.{coefficientsCode, codeOf}
-use Rattle.orders.specs.Operands.{numbersOf, signedNumbers}
+use Rattle.orders.specs.Operands.{commandNumbers, signedNumbers}
 use Rattle.orders.proofs.Numbers.{numbers-here, numbers-none, signed-count}
 use Rattle.orders.proofs.Walks.{Laying, laying-start, laying-turn, laying-end, signed-at, taken-none}
 use Rattle.orders.proofs.Parts.{part-whole, part-room}
@@ -30,7 +30,7 @@ returns : tie.Need-returns Inv-loop μ-loop
 returns c =
     let a = c .before .before .before .args in
     let e = c .before .code-of .ensures in
-    taken-none (numbersOf coefficientsCode (signedNumbers 4 (a .count)) (a .order .now) (a .command)) (a .filled) (a .area .now)
+    taken-none (commandNumbers coefficientsCode (signedNumbers 4 (a .count)) (a .order .now) (a .command)) (a .filled) (a .area .now)
     (numbers-none coefficientsCode (signedNumbers 4 (a .count)) (a .order .now) (a .command) (λ k. c .if1 .taken (e ∙ k)))
 
 operands-of-requires : tie.Need-operands-of-requires Inv-loop μ-loop
@@ -49,7 +49,7 @@ module _ (c : tie.After-operands-of Inv-loop μ-loop) where
   same-code = sym (c .before .before .code-of .ensures) ∙ c .before .if1 .left
 
   -- its numbers are those of the part
-  here : numbersOf coefficientsCode (signedNumbers 4 (start .args .count)) (start .args .order .now) (start .args .command) ≡ signedNumbers 4 (start .args .count) part
+  here : commandNumbers coefficientsCode (signedNumbers 4 (start .args .count)) (start .args .order .now) (start .args .command) ≡ signedNumbers 4 (start .args .count) part
   here =
       let a = start .args in
       numbers-here coefficientsCode (signedNumbers 4 (a .count)) (a .order .now) (a .command) same-code
