@@ -34,21 +34,21 @@
  *    6      a 65th GENERATOR, a 9th EXCHANGE or a 129th ROW                        its offset
  *           the answer is longer than the answer area; tested last                 0
  *   generators
- *    7      an entry is past +-10,000                                              generator * n + cell
+ *    7      an entry is past +-4,000                                               generator * n + cell
  *    8      a generator is zero                                                    generator
  *   exchanges
  *    9      a sequence is no permutation of 1 to n                                 exchange
  *   10      the group has more than 1,152 members                                  0
  *   11      an exchange of the generator is no generator and no negative of one    generator
  *   completion (list, split)
- *   12      a nonzero remainder has an entry past +-10,000                         sums tried, this one counted
+ *   12      a nonzero remainder has an entry past +-4,000                          sums tried, this one counted
  *   13      a row is to be stored and 128 are stored                               sums tried, this one counted
  *   split
  *   14      an entry of the vector is past +-1,000,000                             cell
  *   15      the vector is not in the lattice                                       0
  *   16      there are more than 64 pieces                                          0
  *   check
- *   17      a row is zero, has an entry past +-10,000 or is not its greatest image row
+ *   17      a row is zero, has an entry past +-4,000 or is not its greatest image  row
  *   18      the row before it does not precede the row, equal rows included        row
  *   19      a coefficient is past +-1,000,000, or the combination is not the row   row
  *   20      the remainder of a generator is not zero                               generator
@@ -66,7 +66,7 @@ extern "C" {
 #endif
 
 /* No text is longer: an answer area of this length always has room. */
-#define SUKORETA_ANSWER_LIMIT 14368
+#define SUKORETA_ANSWER_LIMIT 12320
 
 /* The answer to a longer order file is the answer to this many of its first bytes: it is refused. */
 #define SUKORETA_ORDER_LIMIT 65536

@@ -7,7 +7,7 @@ cells = 16
 
 -- 7, 12 and 17: the greatest absolute value of an entry that is sent, stored or brought
 abbrev pub entryLimit : ℕ
-entryLimit = 10_000
+entryLimit = 4_000
 
 -- 10: the most members of a group
 abbrev pub groupLimit : ℕ

@@ -103,9 +103,9 @@ samples =
     }
     -- P5: P4 with 2 list rows
     ∷ record { call = list p4 2; end = turnedDown 3 (Refused 13 6) 2 0 }
-    -- P6: (10000,1), (1,10000)
+    -- P6: (4000,1), (1,4000)
     ∷ record {
-      call = list (orderOf 2 (+ 10_000 ∷ + 1 ∷ + 1 ∷ + 10_000 ∷ []) []) listLimit;
+      call = list (orderOf 2 (+ 4_000 ∷ + 1 ∷ + 1 ∷ + 4_000 ∷ []) []) listLimit;
       end = turnedDown 2 (Refused 12 7) listLimit 0;
     }
     -- P7: P2, split (5)

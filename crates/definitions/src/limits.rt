@@ -4,7 +4,7 @@
 pub const CELLS: usize = 16;
 
 // 7, 12 and 17: the greatest absolute value of an entry that is sent, stored or brought.
-pub const ENTRY_LIMIT: u32 = 10_000;
+pub const ENTRY_LIMIT: u32 = 4_000;
 
 // 10: the most members of a group.
 pub const GROUP_LIMIT: usize = 1_152;
