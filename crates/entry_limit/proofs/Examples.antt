@@ -29,7 +29,7 @@ use Rattle.entry_limit.specs.Calls.{checkCallWithin}
 use Rattle.entry_limit.specs.Examples.{answers, checked, halves, halvesCoefficients, halvesRows, listed}
 use Rattle.entry_limit.specs.Examples.{single, turned}
 
--- 7 where it was 13, 11 or a list; 12 where it was 13, at the same place; 17 where it was 20 or a pass
+-- 7 where it was 13, 11 or a list; 12 where it was 13, at the same place, or a list; 17 where it was 20 or a pass
 pub answers-before :
     (listed single 0 1 ≡ answers (Refused 7 0) (Refused 13 0))
     × (listed turned 2 4 ≡ answers (Refused 7 0) (Refused 11 0))

@@ -22,7 +22,7 @@ use Rattle.definitions.specs.Refusals.{wholenessFault}
 use Rattle.definitions.specs.Calls.{Listing, ListEnd, Parts, SplitEnd, CheckEnd, listingOf, listEnd, partsOf, splitEnd}
 use Rattle.definitions.specs.Calls.{checkEnd}
 
--- the refusals that the entry limit has a part in: 7, 12 and 17
+-- the numbers of the refusals that the entry limit has a part in
 unfoldable pub isOfEntries : (number : ℕ) → Bool
 isOfEntries number = eqb number 7 || eqb number 12 || eqb number 17
 
