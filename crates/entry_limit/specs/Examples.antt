@@ -7,6 +7,10 @@ use Rattle.definitions.specs.Lent.{Order, orderOf}
 use Rattle.definitions.specs.Calls.{listCall, checkCall}
 use Rattle.entry_limit.specs.Calls.{listCallWithin, checkCallWithin}
 
+-- the entry limit before
+abbrev pub limitBefore : ℕ
+limitBefore = 10_000
+
 -- an answer, and what it was
 pub record Answers : Type 0 where
   pub now : Answer
@@ -17,12 +21,12 @@ answers now before = record { now = now; before = before }
 
 abbrev pub listed : Order → (listSize groupSize : ℕ) → Answers
 listed order listSize groupSize =
-    answers (listCall order listSize groupSize .answer) (listCallWithin 10_000 order listSize groupSize .answer)
+    answers (listCall order listSize groupSize .answer) (listCallWithin limitBefore order listSize groupSize .answer)
 
 abbrev pub checked : Order → (rows coefficients : List ℤ) (groupSize : ℕ) → Answers
 checked order rows coefficients groupSize =
     answers (checkCall order rows coefficients groupSize .answer)
-    (checkCallWithin 10_000 order rows coefficients groupSize .answer)
+    (checkCallWithin limitBefore order rows coefficients groupSize .answer)
 
 -- (5000)
 abbrev pub single : Order
