@@ -115,7 +115,7 @@ size_t sukoreta_answer_limit(void);
  *
  * Returned is
  *   r >= 0  accepted: the rows of the list, the pieces, or the brought rows. Each written area holds, from its start on
- *             list    the rows of the list, sorted
+ *             list    the rows of the list, sorted by degree
  *             group   the sequences of the group, ascending; a position is an index into these rows
  *             pieces  for each piece its row in the list, its position, its sign (1 or -1) and its count
  *             counts  List   rows, g, k, sums

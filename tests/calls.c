@@ -27,6 +27,7 @@ static const char *const WORDS[SERVICES] = {"MOVES", "SPLIT", "PASSED"};
 
 #define I2(x) (uint8_t)(uint32_t)(x), (uint8_t)((uint32_t)(x) >> 8)
 #define I4(x) I2(x), I2((uint32_t)(x) >> 16)
+#define V2(command, a, b) command, I2(a), I2(b)
 #define V3(command, a, b, c) command, I2(a), I2(b), I2(c)
 #define V9(a, b, c, d, e, f, g, h, i) 2, I2(a), I2(b), I2(c), I2(d), I2(e), I2(f), I2(g), I2(h), I2(i)
 #define NINE                                                                                           \
@@ -50,6 +51,10 @@ static const uint8_t P12[] = {1, 3, V3(2, 1, -1, 0), V3(2, 0, 1, -1), V3(4, 1, -
 static const uint8_t Q13[] = {1, 9, NINE, 3, 4, 5, 6, 1, 2, 3, 7, 8, 9, 3, 1, 2, 3, 7, 8, 9, 4, 5, 6,
                               3, 1, 4, 7, 2, 5, 8, 3, 6, 9, 0};
 static const uint8_t Q14[] = {1, 9, NINE, 0};
+static const uint8_t P15[] = {1, 2, V2(2, 2, -2), V2(2, 3, 0), 0};
+static const uint8_t P16[] = {1, 2, V2(2, 2, -2), V2(2, 3, 0), V2(4, 3, 0), 5, I4(0), I4(1), V2(4, 1, 2), 5, I4(-1),
+                              I4(1), V2(4, 2, -2), 5, I4(1), I4(0), V2(4, 1, -4), 5, I4(2), I4(-1), V2(4, 0, 6), 5,
+                              I4(-3), I4(2), 0};
 static const uint8_t PASS[] = {1, 1, 2, I2(1), 4, I2(1), 5, I4(1), 0};
 
 // The 15 rows of 14 come from a search through all 3 by 3 tables with zero sums and no entry past 3 (minimal_tables in
@@ -88,6 +93,8 @@ static const struct sample SAMPLES[] = {
     {"P12", CHECK, ORDER(P12), NULL, 21, 3},
     {"13", LIST, ORDER(Q13), "MOVES 2 72 2 432\n1 0 -1 0 0 0 -1 0 1\n1 0 -1 0 -1 1 -1 1 0\nEND\n", 0, 0},
     {"14", LIST, ORDER(Q14), TEXT14, 0, 0},
+    {"P15", LIST, ORDER(P15), "MOVES 5 1 5 30\n2 -2\n3 0\n1 2\n1 -4\n0 6\nEND\n", 0, 0},
+    {"P16", CHECK, ORDER(P16), NULL, 18, 2},
     {"P10 without its second row", CHECK, ORDER(PASS), "PASSED 1 2\n", 0, 0},
 };
 

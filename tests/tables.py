@@ -74,10 +74,13 @@ def minimal_tables():
     def weight(v):
         return sum(map(abs, v))
 
+    def degree(v):
+        return max(sum(x for x in v if x > 0), sum(-x for x in v if x < 0))
+
     made = ((a, b, -a - b, c, d, -c - d, -a - c, -b - d, a + b + c + d)
             for a, b, c, d in product(range(-3, 4), repeat=4))
     minimal = []
     for v in sorted((v for v in made if any(v) and max(map(abs, v)) <= 3), key=weight):
         if not any(below(u, v) for u in minimal):
             minimal.append(v)
-    return sorted(one_of_each_sign(minimal), key=weight)
+    return sorted(one_of_each_sign(minimal), key=degree)

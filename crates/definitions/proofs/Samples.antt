@@ -1,7 +1,7 @@
--- The sample orders P1 to P12 end as the table says: one theorem over all its lines, by computation. Assumes nothing.
+-- The proved sample orders end as the table says: one theorem over all its lines, by computation. Assumes nothing.
 use mathlib.Core.Path.{refl}
 use Rattle.definitions.specs.Lists.{range, every, any, select, concat, inserted, sorted}
-use Rattle.definitions.specs.Vector.{padded, zeros, zeroVector, plus, negative, minus, scale, total, weight, within, isZero, cellBelow, below, cellOpposes, opposes, equalCell, equal, isMember, greater}
+use Rattle.definitions.specs.Vector.{padded, zeros, zeroVector, plus, negative, minus, scale, total, weight, positiveSum, degree, within, isZero, cellBelow, below, cellOpposes, opposes, equalCell, equal, isMember, greater}
 use Rattle.definitions.specs.Lattice.{combination}
 use Rattle.definitions.specs.Group.{named, distinctCells, isExchange, exchanged, identity, composed, earlier, withRow, withRows, products, closure, groupTable}
 use Rattle.definitions.specs.Orbit.{signed, orbit, orbits, greatest, representative, rank, precedes}
@@ -13,5 +13,5 @@ use Rattle.definitions.specs.Calls.{listingOf, listing, listEnd, listCal
 use Rattle.definitions.specs.Samples.{called, samples, Hold}
 
 pub samples-hold : Hold samples
-unfolding range every any select concat inserted sorted padded zeros zeroVector plus negative minus scale total weight within isZero cellBelow below cellOpposes opposes equalCell equal isMember greater combination named distinctCells isExchange exchanged identity composed earlier withRow withRows products closure groupTable signed orbit orbits greatest representative rank precedes storedRows firstState begun sumOf sumAt next isFinished firstBelow reduced remainder settled step isOver run sumCount completed hasOtherBelow finalRows placedOrbit placedOrbits cellTimes timesUpTo times withPiece splitting sign written share wholeRows wholeRowsUpTo chunks rowsOf filled vectorsOf numbersOf generatorsOf exchangesOf listRows groupRows tableOf firstFault faultIf faultFrom faultWhere unlessFault cellsFault orderFits sizeFault splitSizeFault broughtFits isPast isGenerator leavesGenerators numbersFault symmetryFault orderFault admissionFault splitFault isUnfit isMisplaced isUncertified rowsFault sumsFault wholenessFault listingOf listing listEnd listCall partsOf parts splitEnd splitCall rulesFault checkFault checkEnd checkCall called samples
-samples-hold = (refl, (refl, (refl, (refl, (refl, (refl, (refl, (refl, (refl, (refl, (refl, (refl, tt))))))))))))
+unfolding range every any select concat inserted sorted padded zeros zeroVector plus negative minus scale total weight positiveSum degree within isZero cellBelow below cellOpposes opposes equalCell equal isMember greater combination named distinctCells isExchange exchanged identity composed earlier withRow withRows products closure groupTable signed orbit orbits greatest representative rank precedes storedRows firstState begun sumOf sumAt next isFinished firstBelow reduced remainder settled step isOver run sumCount completed hasOtherBelow finalRows placedOrbit placedOrbits cellTimes timesUpTo times withPiece splitting sign written share wholeRows wholeRowsUpTo chunks rowsOf filled vectorsOf numbersOf generatorsOf exchangesOf listRows groupRows tableOf firstFault faultIf faultFrom faultWhere unlessFault cellsFault orderFits sizeFault splitSizeFault broughtFits isPast isGenerator leavesGenerators numbersFault symmetryFault orderFault admissionFault splitFault isUnfit isMisplaced isUncertified rowsFault sumsFault wholenessFault listingOf listing listEnd listCall partsOf parts splitEnd splitCall rulesFault checkFault checkEnd checkCall called samples
+samples-hold = (refl, (refl, (refl, (refl, (refl, (refl, (refl, (refl, (refl, (refl, (refl, (refl, (refl, (refl, tt))))))))))))))

@@ -1,4 +1,4 @@
--- Specification 10: the sample orders P1 to P12, as lent calls with the areas that programs lend. Assumes nothing.
+-- Specification 10: the proved sample orders, as lent calls with the areas that programs lend. Assumes nothing.
 use mathlib.Core.Path.{_≡_}
 use mathlib.Core.List.{List, [], _∷_, _++_}
 use Prim.Native.Nat.{ℕ, _*_, _-_}
@@ -82,8 +82,11 @@ p3 = + 1 ∷ − 1 ∷ + 0 ∷ + 0 ∷ + 1 ∷ − 1 ∷ []
 p4 : Order
 p4 = orderOf 3 (+ 1 ∷ + 0 ∷ − 1 ∷ + 2 ∷ − 1 ∷ + 0 ∷ + 0 ∷ − 1 ∷ + 2 ∷ []) (3 ∷ 2 ∷ 1 ∷ [])
 
+p15 : Order
+p15 = orderOf 2 (+ 2 ∷ − 2 ∷ + 3 ∷ + 0 ∷ []) []
+
 unfoldable pub samples : List Sample
-unfolding area moves turnedDown p2 p3 p4
+unfolding area moves turnedDown p2 p3 p4 p15
 samples =
     -- P1: n 1, no generators
     record { call = list (orderOf 1 [] []) listLimit; end = moves 1 (Moves 0 1 0 0) [] (1 ∷ []) }
@@ -137,6 +140,19 @@ samples =
     ∷ record { call = check (orderOf 1 (+ 1 ∷ []) []) [] []; end = turnedDown 1 (Refused 20 0) 0 0 }
     -- P12: Check P3's generators as rows, coefficients 1 0 and 0 1
     ∷ record { call = check (orderOf 3 p3 []) p3 (+ 1 ∷ + 0 ∷ + 0 ∷ + 1 ∷ []); end = turnedDown 3 (Refused 21 3) 0 0 }
+    -- P15: (2,−2), (3,0)
+    ∷ record {
+      call = list p15 listLimit;
+      end =
+          moves 2 (Moves 5 1 5 30) (+ 2 ∷ − 2 ∷ + 3 ∷ + 0 ∷ + 1 ∷ + 2 ∷ + 1 ∷ − 4 ∷ + 0 ∷ + 6 ∷ []) (1 ∷ 2 ∷ []);
+    }
+    -- P16: Check P15's rows by weight: (3,0), (1,2), (2,−2), (1,−4), (0,6), coefficients 0 1, −1 1, 1 0, 2 −1, −3 2
+    ∷ record {
+      call =
+          check p15 (+ 3 ∷ + 0 ∷ + 1 ∷ + 2 ∷ + 2 ∷ − 2 ∷ + 1 ∷ − 4 ∷ + 0 ∷ + 6 ∷ [])
+          (+ 0 ∷ + 1 ∷ − 1 ∷ + 1 ∷ + 1 ∷ + 0 ∷ + 2 ∷ − 1 ∷ − 3 ∷ + 2 ∷ []);
+      end = turnedDown 2 (Refused 18 2) 0 0;
+    }
     ∷ []
 
 -- each line's call ends as the line says

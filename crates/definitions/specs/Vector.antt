@@ -1,7 +1,7 @@
 -- Specification 2.1 and 2.3: vectors of whole numbers. Assumes nothing.
 use mathlib.Core.Bool.{Bool, true, false, _&&_, _||_, not}
 use mathlib.Core.List.{List, [], _∷_, _++_}
-use Prim.Native.Nat.{ℕ, _+_, _-_}
+use Prim.Native.Nat.{ℕ, _+_, _-_, max}
 use lib.IntN.{ℤ, pos, negsuc, natAbs, negℤ, _+ℤ_, _*ℤ_}
 use lib.Signed.{nonNeg, ltZ}
 use lib.Dec.{leb, eqb}
@@ -50,6 +50,16 @@ total (v ∷ vectors) = plus v (total vectors)
 unfoldable pub weight : Vector → ℕ
 weight [] = 0
 weight (x ∷ v) = natAbs x + weight v
+
+-- the sum of the positive entries
+unfoldable pub positiveSum : Vector → ℕ
+positiveSum [] = 0
+positiveSum (pos a ∷ v) = a + positiveSum v
+positiveSum (negsuc a ∷ v) = positiveSum v
+
+-- 2.1: the larger of the sum of the positive entries and that of the negative entries without their signs
+unfoldable pub degree : Vector → ℕ
+degree v = max (positiveSum v) (positiveSum (negative v))
 
 -- no entry is past ±limit
 unfoldable pub within : (limit : ℕ) → Vector → Bool

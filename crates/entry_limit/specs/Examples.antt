@@ -1,4 +1,4 @@
--- Orders with an entry of 5,000, whose answers were others while the entry limit was 10,000. Assumes nothing.
+-- Orders with an entry of 5,000, whose answers are others under the entry limit before, 10,000. Assumes nothing.
 use mathlib.Core.List.{List, [], _∷_}
 use Prim.Native.Nat.{ℕ}
 use lib.IntN.{ℤ, pos, negsuc}
@@ -11,7 +11,7 @@ use Rattle.entry_limit.specs.Calls.{listCallWithin, checkCallWithin}
 abbrev pub limitBefore : ℕ
 limitBefore = 10_000
 
--- an answer, and what it was
+-- an answer, and the one under the entry limit before
 pub record Answers : Type 0 where
   pub now : Answer
   pub before : Answer
@@ -40,10 +40,10 @@ turned = orderOf 2 (pos 5000 ∷ pos 0 ∷ []) (2 ∷ 1 ∷ [])
 abbrev pub halves : Order
 halves = orderOf 2 (pos 2500 ∷ pos 1 ∷ pos 2500 ∷ negsuc 0 ∷ []) []
 
--- its list: (0,2), (2500,1), (2500,−1), (5000,0), with coefficients 1 −1, 1 0, 0 1, 1 1
+-- its list: (0,2), (2500,−1), (2500,1), (5000,0), with coefficients 1 −1, 0 1, 1 0, 1 1
 abbrev pub halvesRows : List ℤ
 halvesRows =
-    pos 0 ∷ pos 2 ∷ pos 2500 ∷ pos 1 ∷ pos 2500 ∷ negsuc 0 ∷ pos 5000 ∷ pos 0 ∷ []
+    pos 0 ∷ pos 2 ∷ pos 2500 ∷ negsuc 0 ∷ pos 2500 ∷ pos 1 ∷ pos 5000 ∷ pos 0 ∷ []
 
 abbrev pub halvesCoefficients : List ℤ
-halvesCoefficients = pos 1 ∷ negsuc 0 ∷ pos 1 ∷ pos 0 ∷ pos 0 ∷ pos 1 ∷ pos 1 ∷ pos 1 ∷ []
+halvesCoefficients = pos 1 ∷ negsuc 0 ∷ pos 0 ∷ pos 1 ∷ pos 1 ∷ pos 0 ∷ pos 1 ∷ pos 1 ∷ []

@@ -3,7 +3,7 @@
 -- Assumes nothing.
 use mathlib.Core.Path.{_≡_, refl}
 use Rattle.definitions.specs.Lists.{range, every, any, select, concat, inserted, sorted}
-use Rattle.definitions.specs.Vector.{padded, zeros, zeroVector, plus, negative, minus, scale, total, weight, within}
+use Rattle.definitions.specs.Vector.{padded, zeros, zeroVector, plus, negative, minus, scale, total, weight, positiveSum, degree, within}
 use Rattle.definitions.specs.Vector.{isZero, cellBelow, below, cellOpposes, opposes, equalCell, equal, isMember}
 use Rattle.definitions.specs.Vector.{greater}
 use Rattle.definitions.specs.Lattice.{combination}
@@ -40,5 +40,5 @@ pub examples-hold :
     (printed ListService p4File ≡ p4Text)
     × (printed SplitService p7File ≡ p7Text)
     × (printed SplitService p8File ≡ p8Text)
-unfolding range every any select concat inserted sorted padded zeros zeroVector plus negative minus scale total weight within isZero cellBelow below cellOpposes opposes equalCell equal isMember greater combination named distinctCells isExchange exchanged identity composed earlier withRow withRows products closure groupTable signed orbit orbits greatest representative rank precedes storedRows firstState begun sumOf sumAt next isFinished firstBelow reduced remainder settled step isOver run sumCount completed hasOtherBelow finalRows placedOrbit placedOrbits cellTimes timesUpTo times withPiece splitting sign written share wholeRows wholeRowsUpTo chunks rowsOf filled vectorsOf numbersOf generatorsOf exchangesOf listRows groupRows tableOf firstFault faultIf faultFrom faultWhere unlessFault cellsFault orderFits sizeFault splitSizeFault broughtFits isPast isGenerator leavesGenerators numbersFault symmetryFault orderFault admissionFault splitFault isUnfit isMisplaced isUncertified rowsFault sumsFault wholenessFault listingOf listing listEnd listCall partsOf parts splitEnd splitCall rulesFault checkFault checkEnd checkCall commandOf commandAt signedOf littleAt oneIf passed admitted stepFrom stepOf after scanFrom scanOf commandsFrom commandsIn commandNumbers gathered generatorsIn exchangesIn vectorIn digits decimal numbersText lineText linesText headText tableText movesText splitText refusedText answerText printed served servedBy p4File p4Text p7File p7Text p8File p8Text
+unfolding range every any select concat inserted sorted padded zeros zeroVector plus negative minus scale total weight positiveSum degree within isZero cellBelow below cellOpposes opposes equalCell equal isMember greater combination named distinctCells isExchange exchanged identity composed earlier withRow withRows products closure groupTable signed orbit orbits greatest representative rank precedes storedRows firstState begun sumOf sumAt next isFinished firstBelow reduced remainder settled step isOver run sumCount completed hasOtherBelow finalRows placedOrbit placedOrbits cellTimes timesUpTo times withPiece splitting sign written share wholeRows wholeRowsUpTo chunks rowsOf filled vectorsOf numbersOf generatorsOf exchangesOf listRows groupRows tableOf firstFault faultIf faultFrom faultWhere unlessFault cellsFault orderFits sizeFault splitSizeFault broughtFits isPast isGenerator leavesGenerators numbersFault symmetryFault orderFault admissionFault splitFault isUnfit isMisplaced isUncertified rowsFault sumsFault wholenessFault listingOf listing listEnd listCall partsOf parts splitEnd splitCall rulesFault checkFault checkEnd checkCall commandOf commandAt signedOf littleAt oneIf passed admitted stepFrom stepOf after scanFrom scanOf commandsFrom commandsIn commandNumbers gathered generatorsIn exchangesIn vectorIn digits decimal numbersText lineText linesText headText tableText movesText splitText refusedText answerText printed served servedBy p4File p4Text p7File p7Text p8File p8Text
 examples-hold = (refl, refl, refl)

@@ -34,6 +34,9 @@ const GENERATORS_3: [i32; 6] = [1, -1, 0, 0, 1, -1];
 // The generators of P4 and P5.
 const GENERATORS_4: [i32; 9] = [1, 0, -1, 2, -1, 0, 0, -1, 2];
 
+// The generators of P15 and P16.
+const GENERATORS_15: [i32; 4] = [2, -2, 3, 0];
+
 // The exchange of P4 and P5.
 const EXCHANGE_4: [u8; 3] = [3, 2, 1];
 
@@ -272,6 +275,18 @@ fn s14() {
     list(b"14\n", 9, &generators, b"");
 }
 
+// P15: a row of lesser degree and greater weight than two others.
+fn p15() {
+    list(b"P15\n", 2, &GENERATORS_15, b"");
+}
+
+// P16: P15's list, sorted by weight.
+fn p16() {
+    let rows = [3i32, 0, 1, 2, 2, -2, 1, -4, 0, 6];
+    let coefficients = [0i64, 1, -1, 1, 1, 0, 2, -1, -3, 2];
+    check(b"P16\n", 2, &GENERATORS_15, &rows, &coefficients);
+}
+
 // Every sample, line by line of the table.
 fn main() {
     p1();
@@ -288,4 +303,6 @@ fn main() {
     p12();
     s13();
     s14();
+    p15();
+    p16();
 }

@@ -17,6 +17,7 @@ pub mod Exchanges
 pub mod GroupTable
 pub mod Action
 pub mod Images
+pub mod Degree
 pub mod Symmetric
 pub mod Bounds
 pub mod Whole

@@ -14,6 +14,7 @@ use mir.Val.{toZ, ofZ, Fits, SFits, hbits}
 use mir.Facts.{toZ-ofZ}
 use Rattle.definitions.specs.Vector.{cellBelow, equalCell}
 use Rattle.definitions.specs.Split.{cellTimes}
+use Rattle.theory.proofs.Cell.{down, up}
 use Rattle.vectors.specs.Bounds.{headroom}
 
 -- ---- absurd tests
@@ -50,6 +51,16 @@ side-zero (pos zero) (pos b) h k = refl
 side-zero (pos zero) (negsuc b) h k = rw (zero-mul (suc b))
 side-zero (pos (suc n)) b h k = none-below (ltb-false 0 (suc n) k)
 side-zero (negsuc n) b h k = false-true (sym h)
+
+-- ---- the parts of a cell
+
+pub positive-part : (a : ℤ) → leZ (pos 0) a ≡ true → (up a ≡ natAbs a) × (down a ≡ 0)
+positive-part (pos n) h = (refl, refl)
+positive-part (negsuc n) h = false-true h
+
+pub negative-part : (a : ℤ) → leZ (pos 0) a ≡ false → (up a ≡ 0) × (down a ≡ natAbs a)
+negative-part (pos n) h = false-true (sym h ∙ leb·zero n)
+negative-part (negsuc n) h = (refl, refl)
 
 -- ---- below
 

@@ -17,10 +17,12 @@ use lib.ListN.{length, take, drop, getD, set, replicate, length-map, length-drop
 use lib.Seq.{drop-cons, take-all, length-take-le, getD-take, getD-drop, paste, paste-suc}
 use Rattle.definitions.specs.Limits.{cells}
 use Rattle.definitions.specs.Lists.{every}
-use Rattle.definitions.specs.Vector.{Vector, padded, plus, negative, weight, within, cellBelow, below, equalCell, equal, greater}
+use Rattle.definitions.specs.Vector.{Vector, padded, plus, negative, weight, positiveSum, within, cellBelow, below, equalCell, equal, greater}
 use Rattle.definitions.specs.Group.{Exchange}
 use Rattle.definitions.specs.Split.{cellTimes, timesUpTo}
 use Rattle.theory.proofs.Lists.{getD-map}
+use Rattle.theory.proofs.Cell.{down, up}
+use Rattle.theory.proofs.Degree.{negative-cons, positive-cons}
 use Rattle.theory.proofs.Bounds.{within-each, within-cell}
 use Rattle.vectors.specs.Bounds.{headroom}
 use Rattle.vectors.proofs.Cells.{none-below, sum-fits, sum-read, difference-fits, difference-read}
@@ -92,6 +94,18 @@ weight-cell v i h = rw (drop-one v i h)
 pub weight-end : (v : Vector) (i : ℕ) → length v ≤ i → weight (drop i v) ≡ 0
 unfolding weight
 weight-end v i h = rw (drop-of-length-le v h)
+
+-- ---- reading: the two sums of the degree
+
+pub positive-cell : (v : Vector) (i : ℕ) → i < length v → positiveSum (drop i v) ≡ up (cellAt v i) + positiveSum (drop (i + 1) v)
+positive-cell v i h = ap positiveSum (drop-one v i h) ∙ positive-cons (cellAt v i) (drop (i + 1) v)
+
+pub negative-cell : (v : Vector) (i : ℕ) → i < length v → positiveSum (negative (drop i v)) ≡ down (cellAt v i) + positiveSum (negative (drop (i + 1) v))
+negative-cell v i h = ap (λ (u : Vector). positiveSum (negative u)) (drop-one v i h) ∙ negative-cons (cellAt v i) (drop (i + 1) v)
+
+pub sums-end : (v : Vector) (i : ℕ) → length v ≤ i → (positiveSum (drop i v) ≡ 0) × (positiveSum (negative (drop i v)) ≡ 0)
+unfolding positiveSum negative
+sums-end v i h = let e = drop-of-length-le v {i = i} h in (ap positiveSum e, ap (λ (u : Vector). positiveSum (negative u)) e)
 
 -- ---- reading: lexicographically greater
 

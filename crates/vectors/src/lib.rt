@@ -8,7 +8,7 @@ ghost use lib.Signed.{nonNeg};
 ghost use lib.ListN.{length, getD, take, drop};
 ghost use lib.Seq.{paste};
 ghost use Rattle.definitions.specs.Limits.{cells};
-ghost use Rattle.definitions.specs.Vector.{padded, plus, minus, negative, weight, within, isZero, isMember};
+ghost use Rattle.definitions.specs.Vector.{padded, plus, minus, negative, weight, degree, within, isZero, isMember};
 ghost use Rattle.definitions.specs.Vector.{cellBelow, below, equal, greater};
 ghost use Rattle.definitions.specs.Group.{exchanged};
 ghost use Rattle.definitions.specs.Split.{cellTimes, times};
@@ -87,6 +87,31 @@ pub fn weight(v: [i32; CELLS]) -> u64
         i += 1;
     }
     sum
+}
+
+// The degree of `v`: the larger of the sum of the positive entries and that of the negative entries without their signs
+// (Specification 2.1).
+pub fn degree(v: [i32; CELLS]) -> u64
+    ensures counted { λ r. ⌜ r ≡ degree v ⌝ }
+{
+    let mut positive_sum: u64 = 0;
+    let mut negative_sum: u64 = 0;
+    let mut i = 0;
+    while i < CELLS {
+        let a = v[i];
+        let part = magnitude(a) as u64;
+        if 0 <= a {
+            positive_sum += part;
+        } else {
+            negative_sum += part;
+        }
+        i += 1;
+    }
+    if positive_sum < negative_sum {
+        negative_sum
+    } else {
+        positive_sum
+    }
 }
 
 // Whether `u` and `v` are the same vector.
