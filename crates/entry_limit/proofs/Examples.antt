@@ -1,4 +1,4 @@
--- The answers to orders with an entry of 5,000, and what they were, by computation. Assumes nothing.
+-- The answers to orders with an entry of 5,000, and those under the entry limit before, by computation. Assumes nothing.
 use mathlib.Core.Path.{_≡_, refl}
 use mathlib.Core.List.{[], _∷_}
 use lib.IntN.{pos}
