@@ -17,7 +17,7 @@ use lib.ListN.{length, take, drop, getD, set, replicate, length-map, length-drop
 use lib.Seq.{drop-cons, take-all, length-take-le, getD-take, getD-drop, paste, paste-suc}
 use Rattle.definitions.specs.Limits.{cells}
 use Rattle.definitions.specs.Lists.{every}
-use Rattle.definitions.specs.Vector.{Vector, padded, plus, negative, weight, positiveSum, within, cellBelow, below, equalCell, equal, greater}
+use Rattle.definitions.specs.Vector.{Vector, padded, plus, negative, weight, positiveSum, within, equalCell, equal, greater}
 use Rattle.definitions.specs.Group.{Exchange}
 use Rattle.definitions.specs.Split.{cellTimes, timesUpTo}
 use Rattle.theory.proofs.Lists.{getD-map}
@@ -41,10 +41,6 @@ drop-one v i h = rw (add-one, drop-cons v i (pos 0))
 pub record Every (all : Vector → Vector → Bool) (test : ℤ → ℤ → Bool) : Type 0 where
   pub none : all [] [] ≡ true
   pub some : (a b : ℤ) (u v : Vector) → all (a ∷ u) (b ∷ v) ≡ test a b && all u v
-
-pub every-below : Every below cellBelow
-unfolding below
-every-below = record { none = refl; some = λ a b u v. refl }
 
 pub every-equal : Every equal equalCell
 unfolding equal

@@ -2,6 +2,7 @@
 pub mod Cells
 pub mod Negatives
 pub mod Kit
+pub mod Support
 pub mod Keys
 pub mod Rows
 pub mod Searches

@@ -1,6 +1,6 @@
 // Vectors: an array of CELLS numbers by value, and rows of lent areas (Specification 2.1).
 ghost use mathlib.Core.Path.{_≡_};
-ghost use mathlib.Core.Bool.{true};
+ghost use mathlib.Core.Bool.{true, not};
 ghost use mathlib.Core.List.{[]};
 ghost use Prim.Native.Nat.{_+_, _/_, _≤_, _<_};
 ghost use lib.IntN.{pos, natAbs, _*ℤ_};
@@ -15,6 +15,7 @@ ghost use Rattle.definitions.specs.Split.{cellTimes, times};
 ghost use Rattle.vectors.specs.Areas.{clearedFrom, vectorsIn};
 ghost use Rattle.vectors.specs.Bounds.{headroom, NamesCells};
 ghost use Rattle.vectors.specs.Keys.{fits, key, side, turned};
+ghost use Rattle.vectors.specs.Support.{belowOnSupport, cellOnSupport, cellOutside, outsideSupport};
 use definitions::limits::CELLS;
 
 // One more than the greatest number that one half of a key holds.
@@ -41,18 +42,60 @@ pub fn cell_below(a: i32, b: i32) -> bool
     }
 }
 
-// Whether `u` lies below `v` (Specification 2.3).
-pub fn below(u: [i32; CELLS], v: [i32; CELLS]) -> bool
-    ensures told { λ r. ⌜ r ≡ below u v ⌝ }
+// Whether `a` is zero if `b` is, of one cell.
+fn cell_within_support(a: i32, b: i32) -> bool
+    ensures told { λ r. ⌜ r ≡ not (cellOutside a b) ⌝ }
+{
+    (b != 0) | (a == 0)
+}
+
+// The first part of `below`, the cells where `v` is zero: no exactly where `u` is not zero in one of them
+// (Specification 2.3).
+fn within_support(u: [i32; CELLS], v: [i32; CELLS]) -> bool
+    ensures told { λ r. ⌜ r ≡ not (outsideSupport u v) ⌝ }
+{
+    let mut within = true;
+    let mut cell = 0;
+    while cell < CELLS {
+        within = within & cell_within_support(u[cell], v[cell]);
+        cell += 1;
+    }
+    within
+}
+
+// Whether `a` lies below `b` if `b` is not zero, of one cell.
+fn cell_on_support(a: i32, b: i32) -> bool
+    ensures told { λ r. ⌜ r ≡ cellOnSupport a b ⌝ }
+{
+    if b == 0 {
+        return true;
+    }
+    cell_below(a, b)
+}
+
+// The second part of `below`: whether `u` lies below `v` in the cells where `v` is not zero (Specification 2.3).
+fn below_on_support(u: [i32; CELLS], v: [i32; CELLS]) -> bool
+    ensures told { λ r. ⌜ r ≡ belowOnSupport u v ⌝ }
 {
     let mut i = 0;
     while i < CELLS {
-        if !cell_below(u[i], v[i]) {
+        if !cell_on_support(u[i], v[i]) {
             return false;
         }
         i += 1;
     }
     true
+}
+
+// Whether `u` lies below `v` (Specification 2.3): the cells where `v` is zero are looked at first.
+pub fn below(u: [i32; CELLS], v: [i32; CELLS]) -> bool
+    ensures told { λ r. ⌜ r ≡ below u v ⌝ }
+{
+    if within_support(u, v) {
+        below_on_support(u, v)
+    } else {
+        false
+    }
 }
 
 // Whether no cell of `v` is past `limit` in absolute value.
