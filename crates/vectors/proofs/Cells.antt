@@ -1,7 +1,7 @@
 -- One signed cell: what the tests on signs leave of the definitions, and what the machine makes of sums, differences
 -- and absolute values. Assumes nothing.
 use mathlib.Core.Path.{_≡_, refl, sym, ap, _∙_, subst}
-use mathlib.Core.Bool.{Bool, true, false, cond}
+use mathlib.Core.Bool.{Bool, true, false, cond, _&&_, _||_, and-true, and-false, or-true, or-false}
 use Prim.Native.Nat.{ℕ, zero, suc, _+_, _*_, _-_, _/_, _^_, _≤_, _<_, min}
 use native.Mathlib.Nat.{mul-zero, zero-mul, mul-suc, add-suc}
 use native.Mathlib.Omega.{arith}
@@ -81,22 +81,14 @@ cell-below-is (negsuc a) (pos zero) = rw (mul-zero (suc a), leb·suc-zero a)
 cell-below-is (negsuc a) (pos (suc b)) = rw (product-negative a b)
 cell-below-is (negsuc a) (negsuc b) = rw (leb·suc-suc a b)
 
-pub below-negative : (a b : ℤ) → ltZ a (pos 0) ≡ true → leZ b a ≡ cellBelow a b
-below-negative (pos n) b h = none-below (ltb-true n 0 h)
-below-negative (negsuc n) (pos b) h = sym (cell-below-is (negsuc n) (pos b))
-below-negative (negsuc n) (negsuc b) h = sym (cell-below-is (negsuc n) (negsuc b))
-
-pub below-positive : (a b : ℤ) → ltZ (pos 0) a ≡ true → leZ a b ≡ cellBelow a b
-below-positive (pos zero) b h = none-below (ltb-true 0 0 h)
-below-positive (pos (suc n)) (pos b) h = sym (cell-below-is (pos (suc n)) (pos b))
-below-positive (pos (suc n)) (negsuc b) h = sym (cell-below-is (pos (suc n)) (negsuc b))
-below-positive (negsuc n) b h = false-true h
-
-pub below-zero : (a b : ℤ) → ltZ a (pos 0) ≡ false → ltZ (pos 0) a ≡ false → true ≡ cellBelow a b
-below-zero (pos zero) (pos b) h k = sym (cell-below-is (pos zero) (pos b) ∙ leb·zero b)
-below-zero (pos zero) (negsuc b) h k = sym (cell-below-is (pos zero) (negsuc b))
-below-zero (pos (suc n)) b h k = none-below (ltb-false 0 (suc n) k)
-below-zero (negsuc n) b h k = false-true (sym h)
+-- a lies below b where it lies between zero and b
+pub below-between : (a b : ℤ) → (leZ b a && leZ a (pos 0)) || (leZ (pos 0) a && leZ a b) ≡ cellBelow a b
+below-between (pos zero) (pos b) = rw (leb·zero b, or-true (leb b 0 && true)) (sym (cell-below-is (pos zero) (pos b) ∙ leb·zero b))
+below-between (pos (suc a)) (pos b) = rw (leb·suc-zero a, and-false (leb b (suc a)), leb·zero (suc a)) (sym (cell-below-is (pos (suc a)) (pos b)))
+below-between (pos zero) (negsuc b) = sym (cell-below-is (pos zero) (negsuc b))
+below-between (pos (suc a)) (negsuc b) = rw (leb·suc-zero a, leb·zero (suc a)) (sym (cell-below-is (pos (suc a)) (negsuc b)))
+below-between (negsuc a) (pos b) = sym (cell-below-is (negsuc a) (pos b))
+below-between (negsuc a) (negsuc b) = rw (and-true (leb a b), or-false (leb a b)) (sym (cell-below-is (negsuc a) (negsuc b)))
 
 -- ---- the greatest multiple
 

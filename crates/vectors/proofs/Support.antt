@@ -5,15 +5,15 @@ use mathlib.Core.Bool.{Bool, true, false, _&&_, _||_, not, and-assoc, and-true}
 use mathlib.Core.List.{[], _∷_}
 use Prim.Native.Nat.{ℕ, zero, suc, _+_, _≤_, _<_}
 use native.Mathlib.Omega.{arith}
-use borrow.Author.Tests.{lt-ltb, eqb-true, ne-eqb}
-use lib.Dec.{eqb, leb·suc-zero}
+use borrow.Author.Tests.{eqb-true, ne-eqb}
+use lib.Dec.{eqb, leb·zero, leb·suc-zero}
 use lib.IntN.{ℤ, pos, negsuc, natAbs}
 use lib.ListN.{length, drop, drop-of-length-le}
 use mir.Syntax.{w32}
 use mir.Val.{toZ, ofZ}
 use Rattle.definitions.specs.Vector.{Vector, cellBelow, below}
 use Rattle.vectors.specs.Support.{cellOutside, outsideSupport, cellOnSupport, belowOnSupport}
-use Rattle.vectors.proofs.Cells.{below-negative, below-positive, below-zero}
+use Rattle.vectors.proofs.Cells.{below-between}
 use Rattle.vectors.proofs.Kit.{Every, cellAt, drop-one}
 
 -- ---- one cell
@@ -38,22 +38,13 @@ within-cell a b = go (eqb (natAbs b) 0) (eqb (natAbs a) 0)
     go true false = refl
     go false t = refl
 
-module _ (a b : ℤ) where
-  pub on-zero : eqb (natAbs b) 0 ≡ true → true ≡ cellOnSupport a b
-  unfolding cellOnSupport
-  on-zero h = rw h
-
-  pub on-other : eqb (natAbs b) 0 ≡ false → cellBelow a b ≡ cellOnSupport a b
-  unfolding cellOnSupport
-  on-other h = rw h
-
 -- ---- both parts together
 
 -- below zero lies zero alone
 below-none : (a b : ℤ) → natAbs b ≡ 0 → cellBelow a b ≡ not (not (eqb (natAbs a) 0)) && true
-below-none (pos zero) (pos zero) h = sym (below-zero (pos zero) (pos zero) refl refl)
-below-none (pos (suc a)) (pos zero) h = sym (below-positive (pos (suc a)) (pos zero) (lt-ltb 0 (suc a) (omega arith))) ∙ rw (leb·suc-zero a, ne-eqb (suc a) 0 (λ e. omega arith))
-below-none (negsuc a) (pos zero) h = sym (below-negative (negsuc a) (pos zero) refl) ∙ rw (ne-eqb (suc a) 0 (λ e. omega arith))
+below-none (pos zero) (pos zero) h = sym (below-between (pos zero) (pos zero))
+below-none (pos (suc a)) (pos zero) h = sym (below-between (pos (suc a)) (pos zero)) ∙ rw (leb·suc-zero a, leb·zero (suc a), ne-eqb (suc a) 0 (λ e. omega arith))
+below-none (negsuc a) (pos zero) h = sym (below-between (negsuc a) (pos zero)) ∙ rw (ne-eqb (suc a) 0 (λ e. omega arith))
 below-none a (pos (suc b)) h = absurd (omega arith)
 below-none a (negsuc b) h = absurd (omega arith)
 

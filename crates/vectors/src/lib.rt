@@ -29,17 +29,11 @@ pub fn magnitude(a: i32) -> u32
     if b < 0 { (0 - b) as u32 } else { b as u32 }
 }
 
-// Whether `a` lies below `b`, of one cell (Specification 2.3).
+// Whether `a` lies below `b`, of one cell: between zero and `b` (Specification 2.3).
 pub fn cell_below(a: i32, b: i32) -> bool
     ensures told { λ r. ⌜ r ≡ cellBelow a b ⌝ }
 {
-    if a < 0 {
-        b <= a
-    } else if 0 < a {
-        a <= b
-    } else {
-        true
-    }
+    ((b <= a) & (a <= 0)) | ((0 <= a) & (a <= b))
 }
 
 // Whether `a` is zero if `b` is, of one cell.
@@ -67,24 +61,20 @@ fn within_support(u: [i32; CELLS], v: [i32; CELLS]) -> bool
 fn cell_on_support(a: i32, b: i32) -> bool
     ensures told { λ r. ⌜ r ≡ cellOnSupport a b ⌝ }
 {
-    if b == 0 {
-        return true;
-    }
-    cell_below(a, b)
+    (b == 0) | cell_below(a, b)
 }
 
 // The second part of `below`: whether `u` lies below `v` in the cells where `v` is not zero (Specification 2.3).
 fn below_on_support(u: [i32; CELLS], v: [i32; CELLS]) -> bool
     ensures told { λ r. ⌜ r ≡ belowOnSupport u v ⌝ }
 {
+    let mut lies = true;
     let mut i = 0;
     while i < CELLS {
-        if !cell_on_support(u[i], v[i]) {
-            return false;
-        }
+        lies = lies & cell_on_support(u[i], v[i]);
         i += 1;
     }
-    true
+    lies
 }
 
 // Whether `u` lies below `v` (Specification 2.3): the cells where `v` is zero are looked at first.
