@@ -26,12 +26,13 @@
  *   number  met when                                                               place
  *   order file
  *    1      a command's operands run past the end; or a command is due at the end  its offset; or the length
- *    2      the byte where a command is due is none of 00 to 06                    its offset
+ *    2      the byte where a command is due is none of 00 to 07                    its offset
  *    3      the command may not stand there                                        its offset
  *    4      something follows END                                                  the offset behind END
  *   sizes
  *    5      n is not 1 to 16                                                       0
  *    6      a 65th GENERATOR, a 9th EXCHANGE or a 129th ROW                        its offset
+ *           the first IMAGE behind more than 16 generators                         its offset
  *           the answer is longer than the answer area; tested last                 0
  *   generators
  *    7      an entry is past +-4,000                                               generator * n + cell
@@ -39,7 +40,10 @@
  *   exchanges
  *    9      a sequence is no permutation of 1 to n                                 exchange
  *   10      the group has more than 1,152 members                                  0
- *   11      an exchange of the generator is no generator and no negative of one    generator
+ *   11      an exchange of the generator is no generator and no negative of one;   generator
+ *           not tested of a bare order, one with IMAGEs
+ *   23      a coefficient of an image is past +-1,000,000, or the combination      exchange * m + generator
+ *           is not the image; of a bare order alone, with m generators
  *   completion (list, split)
  *   12      a nonzero remainder has an entry past +-4,000                          sums tried, this one counted
  *   13      a row is to be stored and 128 are stored                               sums tried, this one counted
@@ -104,6 +108,9 @@ size_t sukoreta_answer_limit(void);
  *   n             the cells of a vector, 1 to 16
  *   generators    n to a row, at most 64 rows
  *   exchanges     n to a row, at most 8 rows; each row the cells 1 to n in some sequence
+ *   images        none, or, of a bare order, m for each of the e exchanges and each of the m generators, of which there
+ *                 are at most 16 then: number (x * m + q) * m + i is how often generator i is taken in the image of
+ *                 generator q by exchange x
  *   vector        exactly n numbers
  *   rows          n to a row, at most 128 rows: the list brought to Check
  *   coefficients  one for each brought row and each generator, of which there are m: number r * m + q is for row r and
@@ -129,22 +136,25 @@ size_t sukoreta_answer_limit(void);
  *           its area; 13 where the list rows in use are taken, at 0 before the first sum; 16 where there are more
  *           pieces than rows of their area.
  *
- * Stack: a lent call takes about 252,000 bytes, a call on an order file up to 348,000. No memory is allocated, and
+ * Stack: a lent call takes about 252,000 bytes, a call on an order file up to 365,000. No memory is allocated, and
  * nothing is kept from one call to the next: calls in several threads need no lock.
  */
 int64_t sukoreta_lent_list(size_t n, const int32_t *generators, size_t generators_length, const uint8_t *exchanges,
-                           size_t exchanges_length, int32_t *list, size_t list_length, uint8_t *group,
-                           size_t group_length, uint64_t *counts, size_t counts_length);
+                           size_t exchanges_length, const int64_t *images, size_t images_length, int32_t *list,
+                           size_t list_length, uint8_t *group, size_t group_length, uint64_t *counts,
+                           size_t counts_length);
 
 int64_t sukoreta_lent_split(size_t n, const int32_t *generators, size_t generators_length, const uint8_t *exchanges,
-                            size_t exchanges_length, const int32_t *vector, size_t vector_length, int32_t *list,
-                            size_t list_length, uint8_t *group, size_t group_length, int32_t *pieces,
-                            size_t pieces_length, uint64_t *counts, size_t counts_length);
+                            size_t exchanges_length, const int64_t *images, size_t images_length,
+                            const int32_t *vector, size_t vector_length, int32_t *list, size_t list_length,
+                            uint8_t *group, size_t group_length, int32_t *pieces, size_t pieces_length,
+                            uint64_t *counts, size_t counts_length);
 
 int64_t sukoreta_lent_check(size_t n, const int32_t *generators, size_t generators_length, const uint8_t *exchanges,
-                            size_t exchanges_length, const int32_t *rows, size_t rows_length,
-                            const int64_t *coefficients, size_t coefficients_length, uint8_t *group,
-                            size_t group_length, uint64_t *counts, size_t counts_length);
+                            size_t exchanges_length, const int64_t *images, size_t images_length,
+                            const int32_t *rows, size_t rows_length, const int64_t *coefficients,
+                            size_t coefficients_length, uint8_t *group, size_t group_length, uint64_t *counts,
+                            size_t counts_length);
 
 #ifdef __cplusplus
 }

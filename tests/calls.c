@@ -23,13 +23,15 @@ typedef int64_t call(const uint8_t *, size_t, uint8_t *, size_t);
 static call *const CALLS[SERVICES] = {sukoreta_list, sukoreta_split, sukoreta_check};
 static const char *const WORDS[SERVICES] = {"MOVES", "SPLIT", "PASSED"};
 
-// ---- sample orders (section 10); P5 needs another list area than C calls lend
+// ---- sample orders (section 10); P5 needs another list area than C calls lend, and P22 images that are not whole
 
 #define I2(x) (uint8_t)(uint32_t)(x), (uint8_t)((uint32_t)(x) >> 8)
 #define I4(x) I2(x), I2((uint32_t)(x) >> 16)
 #define V2(command, a, b) command, I2(a), I2(b)
 #define V3(command, a, b, c) command, I2(a), I2(b), I2(c)
 #define V9(a, b, c, d, e, f, g, h, i) 2, I2(a), I2(b), I2(c), I2(d), I2(e), I2(f), I2(g), I2(h), I2(i)
+#define IMAGE2(a, b) 7, I4(a), I4(b)
+#define IMAGE4(a, b, c, d) 7, I4(a), I4(b), I4(c), I4(d)
 #define NINE                                                                                           \
     V9(1, -1, 0, -1, 1, 0, 0, 0, 0), V9(1, 0, -1, -1, 0, 1, 0, 0, 0), V9(0, 1, -1, 0, -1, 1, 0, 0, 0), \
     V9(1, -1, 0, 0, 0, 0, -1, 1, 0), V9(1, 0, -1, 0, 0, 0, -1, 0, 1), V9(0, 1, -1, 0, 0, 0, 0, -1, 1), \
@@ -55,6 +57,22 @@ static const uint8_t P15[] = {1, 2, V2(2, 2, -2), V2(2, 3, 0), 0};
 static const uint8_t P16[] = {1, 2, V2(2, 2, -2), V2(2, 3, 0), V2(4, 3, 0), 5, I4(0), I4(1), V2(4, 1, 2), 5, I4(-1),
                               I4(1), V2(4, 2, -2), 5, I4(1), I4(0), V2(4, 1, -4), 5, I4(2), I4(-1), V2(4, 0, 6), 5,
                               I4(-3), I4(2), 0};
+#define LINE 1, 3, V3(2, 1, -1, 0), V3(2, 0, 1, -1), 3, 2, 3, 1
+#define IMAGES IMAGE2(-1, -1), IMAGE2(1, 0)
+static const uint8_t P17[] = {LINE, IMAGES, 0};
+static const uint8_t P18[] = {LINE, IMAGES, 6, I4(2), I4(-1), I4(-1), 0};
+static const uint8_t P19[] = {LINE, IMAGES, V3(4, 1, 0, -1), 5, I4(1), I4(1), 0};
+static const uint8_t P20[] = {LINE, IMAGE2(0, 1), IMAGE2(-1, -1), 0};
+static const uint8_t P21[] = {LINE, 3, 3, 1, 2, IMAGES, IMAGE2(0, 1), IMAGE2(-1, 0), 0};
+static const uint8_t Q23[] = {
+    1, 9, V9(1, -1, 0, -1, 1, 0, 0, 0, 0), V9(0, 1, -1, 0, -1, 1, 0, 0, 0), V9(0, 0, 0, 1, -1, 0, -1, 1, 0),
+    V9(0, 0, 0, 0, 1, -1, 0, -1, 1), 3, 4, 5, 6, 1, 2, 3, 7, 8, 9, 3, 1, 2, 3, 7, 8, 9, 4, 5, 6,
+    3, 2, 1, 3, 5, 4, 6, 8, 7, 9, 3, 1, 3, 2, 4, 6, 5, 7, 9, 8, 3, 1, 4, 7, 2, 5, 8, 3, 6, 9,
+    IMAGE4(-1, 0, 0, 0), IMAGE4(0, -1, 0, 0), IMAGE4(1, 0, 1, 0), IMAGE4(0, 1, 0, 1),
+    IMAGE4(1, 0, 1, 0), IMAGE4(0, 1, 0, 1), IMAGE4(0, 0, -1, 0), IMAGE4(0, 0, 0, -1),
+    IMAGE4(-1, 0, 0, 0), IMAGE4(1, 1, 0, 0), IMAGE4(0, 0, -1, 0), IMAGE4(0, 0, 1, 1),
+    IMAGE4(1, 1, 0, 0), IMAGE4(0, -1, 0, 0), IMAGE4(0, 0, 1, 1), IMAGE4(0, 0, 0, -1),
+    IMAGE4(1, 0, 0, 0), IMAGE4(0, 0, 1, 0), IMAGE4(0, 1, 0, 0), IMAGE4(0, 0, 0, 1), 0};
 static const uint8_t PASS[] = {1, 1, 2, I2(1), 4, I2(1), 5, I4(1), 0};
 
 // The 15 rows of 14 come from a search through all 3 by 3 tables with zero sums and no entry past 3 (minimal_tables in
@@ -95,11 +113,18 @@ static const struct sample SAMPLES[] = {
     {"14", LIST, ORDER(Q14), TEXT14, 0, 0},
     {"P15", LIST, ORDER(P15), "MOVES 5 1 5 30\n2 -2\n3 0\n1 2\n1 -4\n0 6\nEND\n", 0, 0},
     {"P16", CHECK, ORDER(P16), NULL, 18, 2},
+    {"P17", LIST, ORDER(P17), "MOVES 1 3 1 6\n1 0 -1\nEND\n", 0, 0},
+    {"P18", SPLIT, ORDER(P18), "SPLIT 2\n0 0 1 1\n0 2 -1 1\nEND\n", 0, 0},
+    {"P19", CHECK, ORDER(P19), "PASSED 1 6\n", 0, 0},
+    {"P20", LIST, ORDER(P20), NULL, 23, 0},
+    {"P21", LIST, ORDER(P21), NULL, 23, 3},
+    {"23", LIST, ORDER(Q23), "MOVES 2 72 2 432\n1 0 -1 0 0 0 -1 0 1\n1 0 -1 0 -1 1 -1 1 0\nEND\n", 0, 0},
     {"P10 without its second row", CHECK, ORDER(PASS), "PASSED 1 2\n", 0, 0},
 };
 
 // The table of 8.3.
 #define FILE_OF(...) (const uint8_t[]){__VA_ARGS__}, sizeof((const uint8_t[]){__VA_ARGS__})
+#define ONE_IMAGE 1, 1, 2, 1, 0, 3, 1, 3, 1, 7, 1, 0, 0, 0  // the first of two
 enum { ANY = SERVICES };
 
 static const struct sample FILES[] = {
@@ -108,7 +133,8 @@ static const struct sample FILES[] = {
     {"01 03", ANY, FILE_OF(1, 3), NULL, 1, 2},
     {"01 00", ANY, FILE_OF(1, 0), NULL, 5, 0},
     {"a cell too many", ANY, FILE_OF(1, LIMIT_CELLS + 1), NULL, 5, 0},
-    {"07", ANY, FILE_OF(7), NULL, 2, 0},
+    {"08", ANY, FILE_OF(8), NULL, 2, 0},
+    {"07", ANY, FILE_OF(7), NULL, 3, 0},
     {"06", LIST, FILE_OF(6), NULL, 3, 0},
     {"01 01 01", ANY, FILE_OF(1, 1, 1), NULL, 3, 2},
     {"01 01 02 05", ANY, FILE_OF(1, 1, 2, 5), NULL, 1, 2},
@@ -118,6 +144,11 @@ static const struct sample FILES[] = {
     {"END after ROW", CHECK, FILE_OF(1, 1, 4, 1, 0, 0), NULL, 3, 5},
     {"COEFFICIENTS without ROW", CHECK, FILE_OF(1, 1, 5), NULL, 3, 2},
     {"behind END", LIST, FILE_OF(1, 1, 0, 7), NULL, 4, 3},
+    {"IMAGE without GENERATOR", ANY, FILE_OF(1, 1, 3, 1, 7), NULL, 3, 4},
+    {"END for IMAGE", ANY, FILE_OF(ONE_IMAGE, 0), NULL, 3, 14},
+    {"EXCHANGE for IMAGE", ANY, FILE_OF(ONE_IMAGE, 3, 1), NULL, 3, 14},
+    {"IMAGE cut", ANY, FILE_OF(ONE_IMAGE, 7, 1), NULL, 1, 14},
+    {"IMAGE too many", ANY, FILE_OF(ONE_IMAGE, 7, 1, 0, 0, 0, 7), NULL, 3, 19},
 };
 
 // ---- counting
@@ -204,7 +235,7 @@ static void known(const struct sample *s, int service) {
     expect_answer(s, service, ROOM);
 }
 
-// The last lines of 8.3, and files past the order limit: whole generators of one cell up to the end.
+// The lines of 8.3 with many generators, and files past the order limit: whole generators of one cell up to the end.
 static void long_files(void) {
     static uint8_t order[LONG] = {1, 1};
     size_t whole = 2 + LIMIT_GENERATORS * 3;
@@ -223,6 +254,12 @@ static void long_files(void) {
     memcpy(order + whole, (const uint8_t[]){0, 0}, 2);
     struct sample s = {"far behind END", LIST, order, sizeof order, NULL, 4, (int64_t)whole + 1};
     expect_refusal(&s, LIST, ROOM);
+    size_t crowded = 2 + (LIMIT_BARE + 1) * 3;
+    memcpy(order + crowded, (const uint8_t[]){3, 1, 7}, 3);
+    for (int service = 0; service < SERVICES; service++) {
+        s = (struct sample){"a generator too many for IMAGE", service, order, 0, NULL, 6, (int64_t)crowded + 2};
+        for (s.length = crowded + 3; s.length <= crowded + 80; s.length += 11) expect_refusal(&s, service, ROOM);
+    }
 }
 
 // ---- answers that are not known
@@ -244,12 +281,13 @@ static const struct {
     [12] = {"LS", SUMS}, [13] = {"LS", SUMS}, [14] = {"S", LIMIT_CELLS - 1}, [15] = {"S", 0}, [16] = {"S", 0},
     [17] = {"C", LIMIT_LIST - 1}, [18] = {"C", LIMIT_LIST - 1}, [19] = {"C", LIMIT_LIST - 1},
     [20] = {"C", LIMIT_GENERATORS - 1}, [21] = {"C", SUMS}, [22] = {"C", LIMIT_LIST - 1},
+    [23] = {"LSC", LIMIT_EXCHANGES * LIMIT_BARE - 1},
 };
 
 static bool possible(int service, int64_t result, size_t length) {
     int number = SUKORETA_NUMBER(result);
     int64_t place = SUKORETA_PLACE(result);
-    if (number < 1 || number > 22 || !strchr(REFUSALS[number].services, "LSC"[service])) return false;
+    if (number < 1 || number > 23 || !strchr(REFUSALS[number].services, "LSC"[service])) return false;
     if (REFUSALS[number].most == SUMS) return place > 0;
     if (REFUSALS[number].most == OFFSET) return number == 1 ? place <= (int64_t)length : place < (int64_t)length;
     return place <= REFUSALS[number].most;
@@ -314,7 +352,7 @@ static size_t cut_command(const uint8_t *order, size_t length) {
     for (;;) {
         if (at == length) return at;
         size_t n = at ? order[1] : 0;
-        size_t widths[] = {0, 1, 2 * n, n, 2 * n, 4 * m, 4 * n};
+        size_t widths[] = {0, 1, 2 * n, n, 2 * n, 4 * m, 4 * n, 4 * m};
         m += order[at] == 2;
         if (at + 1 + widths[order[at]] > length) return at;
         at += 1 + widths[order[at]];
@@ -335,7 +373,7 @@ static void cut(const struct sample *s) {
 
 // Each byte changed: to every other value in a short order, in one bit or in all bits in a long one.
 static void changed(const struct sample *s) {
-    uint8_t order[256];
+    uint8_t order[512];
     memcpy(order, s->order, s->length);
     for (size_t at = 0; at < s->length; at++) {
         for (int bits = 1; bits < 256; bits++) {

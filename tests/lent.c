@@ -12,7 +12,7 @@
 #include "sukoreta.h"
 
 enum { LIST, SPLIT, CHECK, SERVICES };
-enum { SLICES = 7, ROOM = 1 << 20, BORDER = 64 };
+enum { SLICES = 8, ROOM = 1 << 20, BORDER = 64 };
 enum { DIFFERENT = 1, BESIDE = 2, CHANGED = 4 };
 // A slice stands between its pages, is a null pointer of length 0, or, for lengths past every room, is zeros that are
 // not sent and can only be read.
@@ -25,9 +25,9 @@ static const struct {
     int read, all;
     size_t width[SLICES];
 } SHAPES[SERVICES] = {
-    [LIST] = {2, 5, {4, 1, 4, 1, 8}},
-    [SPLIT] = {3, 7, {4, 1, 4, 4, 1, 4, 8}},
-    [CHECK] = {4, 6, {4, 1, 4, 8, 1, 8}},
+    [LIST] = {3, 6, {4, 1, 8, 4, 1, 8}},
+    [SPLIT] = {4, 8, {4, 1, 8, 4, 4, 1, 4, 8}},
+    [CHECK] = {5, 7, {4, 1, 8, 4, 8, 1, 8}},
 };
 
 struct slice {
@@ -47,13 +47,13 @@ static uint8_t sent[SLICES][ROOM], first_areas[SLICES][ROOM], areas[SLICES][ROOM
 // The call, with slices that start at these places.
 static int64_t called(void *const *at) {
     if (service == LIST)
-        return sukoreta_lent_list(n, SLICE(int32_t, 0), SLICE(uint8_t, 1), SLICE(int32_t, 2), SLICE(uint8_t, 3),
-                                  SLICE(uint64_t, 4));
+        return sukoreta_lent_list(n, SLICE(int32_t, 0), SLICE(uint8_t, 1), SLICE(int64_t, 2), SLICE(int32_t, 3),
+                                  SLICE(uint8_t, 4), SLICE(uint64_t, 5));
     if (service == SPLIT)
-        return sukoreta_lent_split(n, SLICE(int32_t, 0), SLICE(uint8_t, 1), SLICE(int32_t, 2), SLICE(int32_t, 3),
-                                   SLICE(uint8_t, 4), SLICE(int32_t, 5), SLICE(uint64_t, 6));
-    return sukoreta_lent_check(n, SLICE(int32_t, 0), SLICE(uint8_t, 1), SLICE(int32_t, 2), SLICE(int64_t, 3),
-                               SLICE(uint8_t, 4), SLICE(uint64_t, 5));
+        return sukoreta_lent_split(n, SLICE(int32_t, 0), SLICE(uint8_t, 1), SLICE(int64_t, 2), SLICE(int32_t, 3),
+                                   SLICE(int32_t, 4), SLICE(uint8_t, 5), SLICE(int32_t, 6), SLICE(uint64_t, 7));
+    return sukoreta_lent_check(n, SLICE(int32_t, 0), SLICE(uint8_t, 1), SLICE(int64_t, 2), SLICE(int32_t, 3),
+                               SLICE(int64_t, 4), SLICE(uint8_t, 5), SLICE(uint64_t, 6));
 }
 
 // Where slice i stands at one end of its pages, and the bytes on its other side.

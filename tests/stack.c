@@ -1,22 +1,24 @@
-// Measures the stack that each call takes, on orders that go through every part of it, and holds it to a bound.
+// Measures the stack that each call takes, on orders that go through every part of it, and holds it to a bound. Each
+// call is made with all moves of a table, and then bare, with a basis of them; what is printed is the most of both.
 //
 // A call is made in a thread whose stack was filled before: what is changed afterwards was taken. What the thread takes
 // itself, found by a call that does nothing, is not counted. The last line is 'N passed, M failed'.
 #include <pthread.h>
+#include <stdbool.h>
 #include <stdio.h>
 #include <stdlib.h>
 #include <string.h>
 
 #include "sukoreta.h"
 
-enum { STACK = 1 << 20, BOUND = 400000, FILLED = 0xa5, N = 16, MOVES = 36 };
+enum { STACK = 1 << 20, BOUND = 400000, FILLED = 0xa5, N = 16, MOVES = 36, BASIS = 9, SENT = 7 };
 
 static uint8_t stack[STACK] __attribute__((aligned(4096)));
 static int32_t generators[MOVES * N], list[128 * N], pieces[256], vector[N], rows[128 * N];
-static uint8_t exchanges[7 * N], group[1152 * N], order[SUKORETA_ORDER_LIMIT], answer[SUKORETA_ANSWER_LIMIT];
+static uint8_t exchanges[SENT * N], group[1152 * N], order[SUKORETA_ORDER_LIMIT], answer[SUKORETA_ANSWER_LIMIT];
 static uint64_t counts[5];
-static int64_t coefficients[128 * MOVES], result;
-static size_t order_length, row_count;
+static int64_t images[SENT * BASIS * BASIS], coefficients[128 * MOVES], result;
+static size_t moves, image_count, order_length, row_count;
 
 // ---- the moves of the 4 by 4 table, its swaps of neighbouring rows and columns and its transposition
 
@@ -25,21 +27,24 @@ static size_t put_number(size_t at, int64_t x, int bytes) {
     return at;
 }
 
-static void make_generators(void) {
+// All moves, or those of row 0 and column 0 alone, which are a basis.
+static void make_generators(bool bare) {
     int32_t *g = generators;
-    for (int a = 0; a < 4; a++)
+    memset(generators, 0, sizeof generators);
+    for (int a = 0; a < (bare ? 1 : 4); a++)
         for (int c = a + 1; c < 4; c++)
-            for (int b = 0; b < 4; b++)
+            for (int b = 0; b < (bare ? 1 : 4); b++)
                 for (int d = b + 1; d < 4; d++, g += N) {
                     g[4 * a + b] = g[4 * c + d] = 1;
                     g[4 * a + d] = g[4 * c + b] = -1;
                 }
+    moves = bare ? BASIS : MOVES;
 }
 
 static int swapped(int x, int at) { return x == at ? at + 1 : x == at + 1 ? at : x; }
 
 static void make_exchanges(void) {
-    for (int e = 0; e < 7; e++)
+    for (int e = 0; e < SENT; e++)
         for (int i = 0; i < 4; i++)
             for (int j = 0; j < 4; j++) {
                 int a = e < 3 ? swapped(i, e) : e == 6 ? j : i, b = e < 3 ? j : e == 6 ? i : swapped(j, e - 3);
@@ -47,25 +52,42 @@ static void make_exchanges(void) {
             }
 }
 
-// The coefficients of the brought rows: a table with zero sums is its cells outside row 0 and column 0 times the moves
-// of row 0 with their row and column 0 with their column.
-static void make_coefficients(void) {
+// A table with zero sums is its cells outside row 0 and column 0 times the moves of row 0 with their row and column 0
+// with their column: the cell that is the coefficient of basis move k.
+static int cell_of(int k) { return 4 * (k / 3 + 1) + k % 3 + 1; }
+
+// The coefficients of the brought rows. Among all moves those of the basis are 6 to a row of the table.
+static void make_coefficients(bool bare) {
+    memset(coefficients, 0, sizeof coefficients);
     for (size_t r = 0; r < row_count; r++)
-        for (int i = 1; i < 4; i++)
-            for (int j = 1; j < 4; j++) coefficients[MOVES * r + 6 * (i - 1) + j - 1] = rows[N * r + 4 * i + j];
+        for (int k = 0; k < BASIS; k++)
+            coefficients[moves * r + (bare ? k : 6 * (k / 3) + k % 3)] = rows[N * r + cell_of(k)];
+}
+
+// The coefficients of what each exchange makes of each basis move; none if the order is not bare.
+static void make_images(bool bare) {
+    image_count = bare ? SENT * BASIS * BASIS : 0;
+    for (size_t i = 0; i < image_count; i++) {
+        size_t e = i / (BASIS * BASIS), q = i / BASIS % BASIS;
+        images[i] = generators[N * q + exchanges[N * e + cell_of(i % BASIS)] - 1];
+    }
 }
 
 // The order file of a service (0 List, 1 Split, 2 Check).
 static void make_order(int service) {
     size_t at = put_number(0, 0x01, 1);
     at = put_number(at, N, 1);
-    for (int g = 0; g < MOVES; g++) {
+    for (size_t g = 0; g < moves; g++) {
         at = put_number(at, 0x02, 1);
         for (int j = 0; j < N; j++) at = put_number(at, generators[N * g + j], 2);
     }
-    for (int e = 0; e < 7; e++) {
+    for (int e = 0; e < SENT; e++) {
         at = put_number(at, 0x03, 1);
         for (int j = 0; j < N; j++) at = put_number(at, exchanges[N * e + j], 1);
+    }
+    for (size_t i = 0; i < image_count; i++) {
+        if (i % moves == 0) at = put_number(at, 0x07, 1);
+        at = put_number(at, images[i], 4);
     }
     if (service == 1) {
         at = put_number(at, 0x06, 1);
@@ -75,7 +97,7 @@ static void make_order(int service) {
         at = put_number(at, 0x04, 1);
         for (int j = 0; j < N; j++) at = put_number(at, rows[N * r + j], 2);
         at = put_number(at, 0x05, 1);
-        for (int g = 0; g < MOVES; g++) at = put_number(at, coefficients[MOVES * r + g], 4);
+        for (size_t g = 0; g < moves; g++) at = put_number(at, coefficients[moves * r + g], 4);
     }
     order_length = put_number(at, 0x00, 1);
 }
@@ -85,19 +107,20 @@ static void make_order(int service) {
 static void *nothing(void *x) { return x; }
 
 static void *lent_list(void *x) {
-    result = sukoreta_lent_list(N, generators, MOVES * N, exchanges, 7 * N, list, 128 * N, group, 1152 * N, counts, 5);
+    result = sukoreta_lent_list(N, generators, moves * N, exchanges, SENT * N, images, image_count, list, 128 * N,
+                                group, 1152 * N, counts, 5);
     return x;
 }
 
 static void *lent_split(void *x) {
-    result = sukoreta_lent_split(N, generators, MOVES * N, exchanges, 7 * N, vector, N, list, 128 * N, group, 1152 * N,
-                                 pieces, 256, counts, 5);
+    result = sukoreta_lent_split(N, generators, moves * N, exchanges, SENT * N, images, image_count, vector, N, list,
+                                 128 * N, group, 1152 * N, pieces, 256, counts, 5);
     return x;
 }
 
 static void *lent_check(void *x) {
-    result = sukoreta_lent_check(N, generators, MOVES * N, exchanges, 7 * N, rows, row_count * N, coefficients,
-                                 row_count * MOVES, group, 1152 * N, counts, 5);
+    result = sukoreta_lent_check(N, generators, moves * N, exchanges, SENT * N, images, image_count, rows,
+                                 row_count * N, coefficients, row_count * moves, group, 1152 * N, counts, 5);
     return x;
 }
 
@@ -129,31 +152,45 @@ static size_t taken(void *(*call)(void *)) {
     return STACK - free;
 }
 
+// An order that every call accepts: the vector is a sum of moves, and the brought list is the one that List finds.
+static void make(bool bare) {
+    make_generators(bare);
+    make_images(bare);
+    for (int j = 0; j < N; j++) vector[j] = 3 * generators[j] + 2 * generators[7 * N + j];
+    lent_list(NULL);
+    row_count = result < 0 ? 0 : (size_t)result;
+    memcpy(rows, list, sizeof rows);
+    make_coefficients(bare);
+}
+
+enum { CALLED = 6 };
+
 int main(void) {
     static const struct {
         const char *name;
         void *(*call)(void *);
         int service;
-    } CALLS[] = {{"sukoreta_lent_list", lent_list, 0},   {"sukoreta_lent_split", lent_split, 1},
-                 {"sukoreta_lent_check", lent_check, 2}, {"sukoreta_list", call_list, 0},
-                 {"sukoreta_split", call_split, 1},      {"sukoreta_check", call_check, 2}};
+    } CALLS[CALLED] = {{"sukoreta_lent_list", lent_list, 0},   {"sukoreta_lent_split", lent_split, 1},
+                       {"sukoreta_lent_check", lent_check, 2}, {"sukoreta_list", call_list, 0},
+                       {"sukoreta_split", call_split, 1},      {"sukoreta_check", call_check, 2}};
+    size_t most[CALLED] = {0}, own = taken(nothing);
+    int64_t results[CALLED][2];
     int failed = 0;
-    make_generators();
     make_exchanges();
-    // the vector is a sum of moves, and the brought list is the one that List finds, so that every call is accepted
-    for (int j = 0; j < N; j++) vector[j] = 3 * generators[j] + 2 * generators[7 * N + j];
-    lent_list(NULL);
-    row_count = (size_t)result;
-    memcpy(rows, list, sizeof rows);
-    make_coefficients();
-    size_t own = taken(nothing);
-    for (size_t i = 0; i < sizeof CALLS / sizeof *CALLS; i++) {
-        make_order(CALLS[i].service);
-        size_t most = taken(CALLS[i].call) - own;
-        int bad = most > BOUND || result < 0;
-        printf("%s: %zu bytes of stack, result %lld\n", CALLS[i].name, most, (long long)result);
-        failed += bad;
+    for (int bare = 0; bare < 2; bare++) {
+        make(bare);
+        for (int i = 0; i < CALLED; i++) {
+            make_order(CALLS[i].service);
+            size_t bytes = taken(CALLS[i].call) - own;
+            if (bytes > most[i]) most[i] = bytes;
+            results[i][bare] = result;
+        }
     }
-    printf("%d passed, %d failed\n", 6 - failed, failed);
+    for (int i = 0; i < CALLED; i++) {
+        printf("%s: %zu bytes of stack, results %lld and %lld\n", CALLS[i].name, most[i], (long long)results[i][0],
+               (long long)results[i][1]);
+        failed += most[i] > BOUND || results[i][0] < 0 || results[i][1] < 0;
+    }
+    printf("%d passed, %d failed\n", CALLED - failed, failed);
     return failed > 0;
 }

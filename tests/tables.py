@@ -38,13 +38,22 @@ def slice_moves(shape):
     return one_of_each_sign(moves)
 
 
+def line_move(shape, pairs):
+    """The move with 1 or -1 where two indices of each axis meet, in turn."""
+    corners = product(*([(pair[0], 1), (pair[1], -1)] for pair in pairs))
+    return vector(shape, [(tuple(i for i, _ in corner), prod(s for _, s in corner)) for corner in corners])
+
+
 def line_moves(shape):
     """Moves that keep the sum of each line: two indices on each axis, and 1 or -1 where they meet, in turn."""
-    moves = []
-    for pairs in product(*(combinations(range(size), 2) for size in shape)):
-        corners = product(*([(pair[0], 1), (pair[1], -1)] for pair in pairs))
-        moves.append(vector(shape, [(tuple(i for i, _ in corner), prod(s for _, s in corner)) for corner in corners]))
-    return one_of_each_sign(moves)
+    return one_of_each_sign(line_move(shape, pairs)
+                            for pairs in product(*(combinations(range(size), 2) for size in shape)))
+
+
+def neighbour_moves(shape):
+    """The line moves of neighbouring indices: a basis of all tables with zero lines."""
+    return [line_move(shape, [(i, i + 1) for i in corner])
+            for corner in product(*(range(size - 1) for size in shape))]
 
 
 def exchanges(shape):

@@ -7,13 +7,13 @@ use native.Mathlib.Nat.{mul-le-mul-right, div-mul-le-self}
 use native.Mathlib.Omega.{arith}
 use borrow.Author.Tests.{le-leb, lt-leb}
 use lib.Dec.{leb}
-use lib.ListN.{length, getD}
+use lib.ListN.{length}
 use Rattle.definitions.specs.declared.Fault.{Fault}
 use Rattle.definitions.specs.declared.Fault.the-variants.{None, At}
 use Rattle.definitions.specs.Group.{Exchange}
 use Rattle.definitions.specs.Lists.{concat}
-use Rattle.definitions.specs.Lent.{Order, exchangesOf, filled, generatorsOf, groupRows, tableOf}
-use Rattle.definitions.specs.Refusals.{admissionFault, cellsFault, faultIf, faultWhere, firstFault, leavesGenerators, numbersFault, orderFault, sizeFault, symmetryFault}
+use Rattle.definitions.specs.Lent.{Order, filled, groupRows, tableOf}
+use Rattle.definitions.specs.Refusals.{admissionFault, cellsFault, faultIf, firstFault, latticeFault, numbersFault, orderFault, sizeFault, symmetryFault}
 use Rattle.theory.proofs.Faults.{met-first, unmet-second}
 use Rattle.admission.specs.declared.Admission.{Admission}
 use Rattle.admission.specs.declared.Admission.the-variants.{Members, Refused}
@@ -56,28 +56,22 @@ module _ (order : Order) (size : ℕ) where
   abbrev limit : ℕ
   limit = groupRows (order .n) size
 
-  -- 11
-  abbrev leaving : Fault
-  leaving =
-      faultWhere 11 (length (generatorsOf order))
-      (λ p. leavesGenerators (generatorsOf order) (exchangesOf order) (getD (generatorsOf order) p []))
-
-  -- ---- 10 and 11
+  -- ---- 10, and 11 or 23
   pub tabled-large : {group : List ℕ} → limit < length table → Tabled size (symmetryFault order size) table group (Refused 10 0)
   unfolding faultIf symmetryFault
   tabled-large more =
       let ten : faultIf 10 (not (leb (length table) limit)) ≡ At 10 0 = ap (λ (x : Bool). faultIf 10 (not x)) (lt-leb (length table) limit more) in
       tabled-refused (sym (met-first 10 0 _ ten))
 
-  pub tabled-members : {group : List ℕ} (r : Admission) → length table ≤ limit → (leaving ≡ None → group ≡ filled 0 size (concat table)) → r ≡ admissionOf leaving (length table)
+  pub tabled-members : {group : List ℕ} (r : Admission) → length table ≤ limit → (latticeFault order ≡ None → group ≡ filled 0 size (concat table)) → r ≡ admissionOf (latticeFault order) (length table)
       → Tabled size (symmetryFault order size) table group r
   unfolding faultIf symmetryFault
   tabled-members r few held t =
       let ten : faultIf 10 (not (leb (length table) limit)) ≡ None = ap (λ (x : Bool). faultIf 10 (not x)) (le-leb (length table) limit few) in
-      let same : symmetryFault order size ≡ leaving = sym (unmet-second leaving ten) in
+      let same : symmetryFault order size ≡ latticeFault order = sym (unmet-second (latticeFault order) ten) in
       record { answer = t ∙ ap (λ (f : Fault). admissionOf f (length table)) (sym same); held = λ h. held (sym same ∙ h) }
 
-  -- ---- 5 to 11
+  -- ---- 5 to 11 and 23
   module _ (fits : Bool) where
     -- 5 to 9
     abbrev sent : Fault

@@ -1,4 +1,4 @@
--- What the tests 5 to 11 find, and the group area then (Specification 2.5 and 7.2). Assumes nothing.
+-- What the tests 5 to 11 and 23 find, and the group area then (Specification 2.5 and 7.2). Assumes nothing.
 use mathlib.Core.Path.{_≡_}
 use mathlib.Core.Bool.{Bool}
 use mathlib.Core.List.{List, [], _∷_}
@@ -12,6 +12,7 @@ use Rattle.definitions.specs.Lists.{concat}
 use Rattle.definitions.specs.Group.{Exchange}
 use Rattle.definitions.specs.Lent.{Order, filled, tableOf}
 use Rattle.definitions.specs.Refusals.{admissionFault, cellsFault, firstFault, numbersFault, sizeFault, symmetryFault}
+use Rattle.theory.proofs.Sizes.{OrderSized}
 use Rattle.vectors.specs.Areas.{Lent, sentOrder}
 use Rattle.admission.specs.declared.Admission.{Admission}
 use Rattle.admission.specs.declared.Admission.the-variants.{Members, Refused}
@@ -26,9 +27,10 @@ abbrev pub sentFault : (order : Order) (groupSize : ℕ) (fits : Bool) → Fault
 sentFault order groupSize fits =
     firstFault (cellsFault (order .n) ∷ sizeFault order groupSize fits ∷ numbersFault order ∷ [])
 
--- an order that meets none of 5 and 7 to 9
+-- an order that meets none of 5 to 9
 pub record Numbered (order : Order) : Type 0 where
   pub cellsPass : cellsFault (order .n) ≡ None
+  pub sized : OrderSized order
   pub numbersPass : numbersFault order ≡ None
 
 -- the tests came to `fault`; where none was met, an area of `size` numbers holds the table, and zeros behind
@@ -36,17 +38,18 @@ pub record Tabled (size : ℕ) (fault : Fault) (table : List Exchange) (group : 
   pub answer : r ≡ admissionOf fault (length table)
   pub held : fault ≡ None → group ≡ filled 0 size (concat table)
 
--- 10 and 11 of the order that is sent, and its table in the group area
-abbrev pub Tabulates : (n : ℕ) (generators : Lent ℤ) (exchanges group : Lent ℕ) (r : Admission) → Type 0
-Tabulates n generators exchanges group r =
-    let order = sentOrder n generators exchanges in
+-- 10, and 11 or 23, of the order that is sent, and its table in the group area
+abbrev pub Tabulates : (n : ℕ) (generators : Lent ℤ) (exchanges : Lent ℕ) (images : Lent ℤ) (group : Lent ℕ)
+    (r : Admission) → Type 0
+Tabulates n generators exchanges images group r =
+    let order = sentOrder n generators exchanges images in
     let size = length (now (group .entry)) in
     Tabled size (symmetryFault order size) (tableOf order size) (now (group .exit)) r
 
--- 5 to 11 of the order that is sent, and its table in the group area
-abbrev pub Admits : (n : ℕ) (generators : Lent ℤ) (exchanges : Lent ℕ) (fits : Bool) (group : Lent ℕ) (r : Admission)
-    → Type 0
-Admits n generators exchanges fits group r =
-    let order = sentOrder n generators exchanges in
+-- 5 to 11 and 23 of the order that is sent, and its table in the group area
+abbrev pub Admits : (n : ℕ) (generators : Lent ℤ) (exchanges : Lent ℕ) (images : Lent ℤ) (fits : Bool)
+    (group : Lent ℕ) (r : Admission) → Type 0
+Admits n generators exchanges images fits group r =
+    let order = sentOrder n generators exchanges images in
     let size = length (now (group .entry)) in
     Tabled size (admissionFault order size fits) (tableOf order size) (now (group .exit)) r

@@ -9,9 +9,13 @@ use borrow.Author.Tests.{ltb-true, ltb-false}
 use lib.IntN.{ℤ, pos, negsuc, negℤ, natAbs}
 use lib.ListN.{getD}
 use lib.Signed.{ltZ}
+use Rattle.definitions.specs.Lists.{any}
 use Rattle.definitions.specs.Vector.{Vector}
 use Rattle.definitions.specs.Orbit.{precedes}
-use Rattle.definitions.specs.Refusals.{isMisplaced}
+use Rattle.definitions.specs.Refusals.{isMisplaced, isPast}
+use Rattle.theory.proofs.Members.{any-none, each-map, none-any}
+use Rattle.theory.proofs.Accepted.{past-none}
+use Rattle.refusals.proofs.Turns.{not-past}
 use Rattle.vectors.proofs.Cells.{false-true}
 
 -- ---- 18
@@ -30,7 +34,7 @@ misplaced-at rows (suc p) h =
     let e : suc p - 1 ≡ p = omega arith in
     ap (λ (i : ℕ). not (precedes (getD rows i []) (getD rows (suc p) []))) e
 
--- ---- 19: a number against ±limit
+-- ---- 19 and 23: a number against ±limit
 
 -- it is above
 pub past-above : (limit : ℕ) (x : ℤ) → ltZ (pos limit) x ≡ true → limit < natAbs x
@@ -50,3 +54,11 @@ pub past-neither : (upper lower : ℕ) (x : ℤ) → ltZ (pos upper) x ≡ false
 past-neither upper lower (pos a) e f = inl (ltb-false upper a e)
 past-neither upper zero (negsuc a) e f = false-true (sym f)
 past-neither upper (suc lower) (negsuc a) e f = inr (omega (arith, ltb-false lower a f))
+
+-- numbers that are not past a limit are not past a higher one
+pub past-more : {limit more : ℕ} → limit ≤ more → (xs : List ℤ) → any (isPast limit) xs ≡ false
+    → any (isPast more) xs ≡ false
+past-more {limit} {more} h xs e =
+    none-any (isPast more)
+    (each-map (λ x (f : isPast limit x ≡ false). not-past more x (omega (arith, past-none limit x f)))
+    (any-none (isPast limit) xs e))

@@ -1,4 +1,4 @@
--- Specification 7.2: what the tests 17 to 19 find of a brought list, and what they ask of their callers.
+-- Specification 7.2: what the tests 17 to 19 find of a brought list, and 23 of images; what they ask of their callers.
 -- Assumes nothing.
 use mathlib.Core.Path.{_≡_}
 use mathlib.Core.Bool.{Bool, true}
@@ -8,11 +8,11 @@ use lib.IntN.{ℤ}
 use lib.ListN.{length, getD}
 use denote.Ref.{now}
 use Rattle.definitions.specs.declared.Fault.{Fault}
-use Rattle.definitions.specs.Limits.{entryLimit, generatorLimit}
+use Rattle.definitions.specs.Limits.{entryLimit, generatorLimit, exchangeLimit, bareLimit, coefficientLimit}
 use Rattle.definitions.specs.Vector.{Vector, within}
 use Rattle.definitions.specs.Group.{Exchange}
-use Rattle.definitions.specs.Lent.{chunks}
-use Rattle.definitions.specs.Refusals.{faultWhere, isUnfit, isMisplaced, isUncertified, rowsFault}
+use Rattle.definitions.specs.Lent.{chunks, rowsOf}
+use Rattle.definitions.specs.Refusals.{faultWhere, isUnfit, isMisplaced, isUncertified, imagesFault, rowsFault}
 use Rattle.vectors.specs.Areas.{Lent, vectorsIn}
 use Rattle.reduction.specs.declared.Shape.{Shape}
 use Rattle.reduction.specs.Areas.{sequencesIn}
@@ -25,22 +25,27 @@ unfitFault table rows = faultWhere 17 (length rows) (λ r. isUnfit table (getD r
 abbrev pub misplacedFault : (rows : List Vector) → Fault
 misplacedFault rows = faultWhere 18 (length rows) (isMisplaced rows)
 
--- 19: row r has no certificate
-abbrev pub uncertifiedAt : (generators rows : List Vector) (coefficients : List ℤ) (r : ℕ) → Bool
-uncertifiedAt generators rows coefficients r =
-    let certificates = chunks (length generators) (length rows) coefficients in
-    isUncertified generators (getD certificates r []) (getD rows r [])
+-- 19 and 23: vector p has no certificate
+abbrev pub uncertifiedAt : (limit : ℕ) (generators vectors : List Vector) (coefficients : List ℤ) (p : ℕ) → Bool
+uncertifiedAt limit generators vectors coefficients p =
+    let certificates = chunks (length generators) (length vectors) coefficients in
+    isUncertified limit generators (getD certificates p []) (getD vectors p [])
 
 -- 19: the first row without a certificate
 abbrev pub uncertifiedFault : (generators rows : List Vector) (coefficients : List ℤ) → Fault
 uncertifiedFault generators rows coefficients =
-    faultWhere 19 (length rows) (uncertifiedAt generators rows coefficients)
+    faultWhere 19 (length rows) (uncertifiedAt coefficientLimit generators rows coefficients)
 
 -- 17 to 19 of the rows and coefficients that are lent, with a group's table
 abbrev pub rowsFaultIn : Shape → (generators rows coefficients : Lent ℤ) (table : Lent ℕ) → Fault
 rowsFaultIn shape generators rows coefficients table =
     rowsFault (sequencesIn shape (now (table .entry)))
     (vectorsIn (shape .n) generators) (vectorsIn (shape .n) rows) (now (coefficients .entry))
+
+-- 23 of the order that is lent
+abbrev pub imagesFaultIn : (n : ℕ) (generators : Lent ℤ) (exchanges : Lent ℕ) (images : Lent ℤ) → Fault
+imagesFaultIn n generators exchanges images =
+    imagesFault (vectorsIn n generators) (rowsOf n (now (exchanges .entry))) (now (images .entry))
 
 -- the generators of an order: no entry is past its limit, and they are not too many
 pub record Bounded (n : ℕ) (generators : List ℤ) : Type 0 where
@@ -56,3 +61,10 @@ pub record Certificate (n : ℕ) (generators coefficients : List ℤ) : Type 0 w
 pub record Certifiable (n : ℕ) (generators rows coefficients : List ℤ) : Type 0 where
   pub bounded : Bounded n generators
   pub oneEach : length coefficients ≡ length rows / n * (length generators / n)
+
+-- the generators and the exchanges of a bare order, and for each image one coefficient for each generator
+pub record Showable (n : ℕ) (generators : List ℤ) (exchanges : List ℕ) (images : List ℤ) : Type 0 where
+  pub bounded : Bounded n generators
+  pub few : length generators / n ≤ bareLimit
+  pub exchangesFew : length exchanges / n ≤ exchangeLimit
+  pub oneEach : length images ≡ length exchanges / n * (length generators / n) * (length generators / n)

@@ -1,5 +1,5 @@
 // Tests 17 to 19 of a list that is brought to Check (Specification 5.1 and 7.2): each row fits, stands in its place,
-// and has a certificate.
+// and has a certificate; and 23 of a bare order: each image of a generator has one.
 ghost use mathlib.Core.Path.{_≡_};
 ghost use mathlib.Core.Bool.{false};
 ghost use Prim.Native.Nat.{_/_, _≤_, _<_};
@@ -9,17 +9,21 @@ ghost use Rattle.definitions.specs.Limits.{cells, coefficientLimit};
 ghost use Rattle.definitions.specs.Lists.{any};
 ghost use Rattle.definitions.specs.Vector.{equal};
 ghost use Rattle.definitions.specs.Lattice.{combination};
+ghost use Rattle.definitions.specs.Lent.{rowsOf};
 ghost use Rattle.definitions.specs.Refusals.{isPast, isUnfit, isMisplaced, isUncertified};
+ghost use Rattle.theory.proofs.Exchanges.{AllExchanges};
 ghost use Rattle.vectors.specs.Areas.{vectorsIn};
 ghost use Rattle.reduction.specs.Areas.{sequencesIn, Table};
 ghost use Rattle.certificates.specs.Tests.{misplacedFault, rowsFaultIn, uncertifiedFault, unfitFault};
-ghost use Rattle.certificates.specs.Tests.{Certifiable, Certificate};
+ghost use Rattle.certificates.specs.Tests.{Certifiable, Certificate, Showable, imagesFaultIn};
 use definitions::Fault;
 use definitions::limits::CELLS;
 use definitions::limits::COEFFICIENT_LIMIT;
 use definitions::limits::ENTRY_LIMIT;
+use definitions::limits::IMAGE_LIMIT;
 use reduction::Shape;
 use reduction::representative;
+use refusals::image_at;
 use sorting::precedes;
 use vectors::equal;
 use vectors::is_zero;
@@ -93,17 +97,18 @@ fn misplaced_fault(rows: &[i32], n: usize) -> Fault
     Fault::None
 }
 
-// Whether a coefficient is past its limit (Specification 7.2).
-fn has_past(coefficients: &[i64]) -> bool
-    ensures told { λ r. ⌜ r ≡ any (isPast coefficientLimit) (now (coefficients .entry)) ⌝ }
+// Whether a coefficient is past a limit (Specification 7.2).
+fn has_past(coefficients: &[i64], limit: u32) -> bool
+    ensures told { λ r. ⌜ r ≡ any (isPast limit) (now (coefficients .entry)) ⌝ }
 {
+    let most = limit as i64;
     let mut q = 0;
     while q < coefficients.len() {
         let c = coefficients[q];
-        if COEFFICIENT_LIMIT < c {
+        if most < c {
             return true;
         }
-        if c < 0 - COEFFICIENT_LIMIT {
+        if c < 0 - most {
             return true;
         }
         q += 1;
@@ -160,18 +165,25 @@ fn equals_row(sum: [i64; CELLS], row: [i32; CELLS]) -> bool
     true
 }
 
-// 19: whether a coefficient is past its limit, or the combination is not the row; nothing is multiplied with a
-// coefficient past its limit (Specification 7.2).
-fn is_uncertified(coefficients: &[i64], generators: &[i32], n: usize, row: [i32; CELLS]) -> bool
+// 19 and 23: whether a coefficient is past the limit, or the combination is not the vector; nothing is multiplied with
+// a coefficient past the limit (Specification 7.2).
+fn is_uncertified(
+    coefficients: &[i64],
+    generators: &[i32],
+    n: usize,
+    v: [i32; CELLS],
+    limit: u32,
+) -> bool
     requires cells { ⌜ n ≤ cells ⌝ }
     requires sizes { ⌜ Certificate n (now generators) (now coefficients) ⌝ }
-    ensures told { λ r. ⌜ r ≡ isUncertified (vectorsIn n generators) (now (coefficients .entry)) row ⌝ }
+    requires limited { ⌜ limit ≤ coefficientLimit ⌝ }
+    ensures told { λ r. ⌜ r ≡ isUncertified limit (vectorsIn n generators) (now (coefficients .entry)) v ⌝ }
 {
-    if has_past(coefficients) {
+    if has_past(coefficients, limit) {
         return true;
     }
     let sum = combination(coefficients, generators, n);
-    !equals_row(sum, row)
+    !equals_row(sum, v)
 }
 
 // Refusal 19: the first row without a certificate (Specification 7.2).
@@ -189,13 +201,46 @@ fn uncertified_fault(generators: &[i32], rows: &[i32], coefficients: &[i64], n: 
         let row = vector_at(rows, n, p);
         let from = p * width;
         let to = from + width;
-        if is_uncertified(&coefficients[from..to], generators, n, row) {
+        if is_uncertified(
+            &coefficients[from..to],
+            generators,
+            n,
+            row,
+            COEFFICIENT_LIMIT,
+        ) {
             return Fault::At {
                 number: 19,
                 place: p as u64,
             };
         }
         p += 1;
+    }
+    Fault::None
+}
+
+// Refusal 23: the first image of a generator that is not shown by its coefficients (Specification 7.2).
+pub fn images_fault(n: usize, generators: &[i32], exchanges: &[u8], images: &[i64]) -> Fault
+    requires cells { ⌜ (1 ≤ n) × (n ≤ cells) ⌝ }
+    requires valid { ⌜ AllExchanges n (rowsOf n (now exchanges)) ⌝ }
+    requires sizes { ⌜ Showable n (now generators) (now exchanges) (now images) ⌝ }
+    ensures found { λ r. ⌜ r ≡ imagesFaultIn n generators exchanges images ⌝ }
+{
+    let width = generators.len() / n;
+    let count = exchanges.len() / n * width;
+    let mut i = 0;
+    while i < count {
+        let q = i % width;
+        let v = vector_at(generators, n, q);
+        let image = image_at(v, exchanges, n, i / width);
+        let from = i * width;
+        let to = from + width;
+        if is_uncertified(&images[from..to], generators, n, image, IMAGE_LIMIT) {
+            return Fault::At {
+                number: 23,
+                place: i as u64,
+            };
+        }
+        i += 1;
     }
     Fault::None
 }

@@ -9,7 +9,7 @@ use lib.ListN.{length, getD}
 use borrow.Author.Tests.{lt-ltb, le-ltb, ltb-true, ltb-false}
 use Rattle.definitions.specs.Lists.{if_then_else_}
 use Rattle.commands.specs.declared.Command.{Command}
-use Rattle.commands.specs.declared.Command.the-variants.{Size, Generator, Exchange, Row, Coefficients, Vector, End}
+use Rattle.commands.specs.declared.Command.the-variants.{Size, Generator, Exchange, Row, Coefficients, Vector, Image, End}
 use Rattle.commands.specs.declared.Reading.the-variants.{Known, Unknown, Past}
 use Rattle.commands.specs.Commands.{commandOf, commandAt, codeOf, operandsOf, widthOf}
 
@@ -26,19 +26,20 @@ byte-at order at b h e = rw (lt-ltb at (length order) h) (ap (λ (x : ℕ). comm
 -- and it is none of the known ones
 pub unknown-at : (order : List ℕ) (at : ℕ) → at < length order →
     let b = getD order at 0 in
-    (b ≡ 0 → ⊥) → (b ≡ 1 → ⊥) → (b ≡ 2 → ⊥) → (b ≡ 3 → ⊥) → (b ≡ 4 → ⊥) → (b ≡ 5 → ⊥) → (b ≡ 6 → ⊥) → commandAt order at ≡ Unknown
+    (b ≡ 0 → ⊥) → (b ≡ 1 → ⊥) → (b ≡ 2 → ⊥) → (b ≡ 3 → ⊥) → (b ≡ 4 → ⊥) → (b ≡ 5 → ⊥) → (b ≡ 6 → ⊥) → (b ≡ 7 → ⊥) → commandAt order at ≡ Unknown
 unfolding commandOf
-unknown-at order at h n₀ n₁ n₂ n₃ n₄ n₅ n₆ = byte-at order at (getD order at 0) h refl ∙ other (getD order at 0) n₀ n₁ n₂ n₃ n₄ n₅ n₆
+unknown-at order at h n₀ n₁ n₂ n₃ n₄ n₅ n₆ n₇ = byte-at order at (getD order at 0) h refl ∙ other (getD order at 0) n₀ n₁ n₂ n₃ n₄ n₅ n₆ n₇
   where
-    other : (b : ℕ) → (b ≡ 0 → ⊥) → (b ≡ 1 → ⊥) → (b ≡ 2 → ⊥) → (b ≡ 3 → ⊥) → (b ≡ 4 → ⊥) → (b ≡ 5 → ⊥) → (b ≡ 6 → ⊥) → commandOf b (at + 1) ≡ Unknown
-    other zero n₀ n₁ n₂ n₃ n₄ n₅ n₆ = absurd (n₀ refl)
-    other (suc zero) n₀ n₁ n₂ n₃ n₄ n₅ n₆ = absurd (n₁ refl)
-    other (suc (suc zero)) n₀ n₁ n₂ n₃ n₄ n₅ n₆ = absurd (n₂ refl)
-    other (suc (suc (suc zero))) n₀ n₁ n₂ n₃ n₄ n₅ n₆ = absurd (n₃ refl)
-    other (suc (suc (suc (suc zero)))) n₀ n₁ n₂ n₃ n₄ n₅ n₆ = absurd (n₄ refl)
-    other (suc (suc (suc (suc (suc zero))))) n₀ n₁ n₂ n₃ n₄ n₅ n₆ = absurd (n₅ refl)
-    other (suc (suc (suc (suc (suc (suc zero)))))) n₀ n₁ n₂ n₃ n₄ n₅ n₆ = absurd (n₆ refl)
-    other (suc (suc (suc (suc (suc (suc (suc b))))))) n₀ n₁ n₂ n₃ n₄ n₅ n₆ = refl
+    other : (b : ℕ) → (b ≡ 0 → ⊥) → (b ≡ 1 → ⊥) → (b ≡ 2 → ⊥) → (b ≡ 3 → ⊥) → (b ≡ 4 → ⊥) → (b ≡ 5 → ⊥) → (b ≡ 6 → ⊥) → (b ≡ 7 → ⊥) → commandOf b (at + 1) ≡ Unknown
+    other zero n₀ n₁ n₂ n₃ n₄ n₅ n₆ n₇ = absurd (n₀ refl)
+    other (suc zero) n₀ n₁ n₂ n₃ n₄ n₅ n₆ n₇ = absurd (n₁ refl)
+    other (suc (suc zero)) n₀ n₁ n₂ n₃ n₄ n₅ n₆ n₇ = absurd (n₂ refl)
+    other (suc (suc (suc zero))) n₀ n₁ n₂ n₃ n₄ n₅ n₆ n₇ = absurd (n₃ refl)
+    other (suc (suc (suc (suc zero)))) n₀ n₁ n₂ n₃ n₄ n₅ n₆ n₇ = absurd (n₄ refl)
+    other (suc (suc (suc (suc (suc zero))))) n₀ n₁ n₂ n₃ n₄ n₅ n₆ n₇ = absurd (n₅ refl)
+    other (suc (suc (suc (suc (suc (suc zero)))))) n₀ n₁ n₂ n₃ n₄ n₅ n₆ n₇ = absurd (n₆ refl)
+    other (suc (suc (suc (suc (suc (suc (suc zero))))))) n₀ n₁ n₂ n₃ n₄ n₅ n₆ n₇ = absurd (n₇ refl)
+    other (suc (suc (suc (suc (suc (suc (suc (suc b)))))))) n₀ n₁ n₂ n₃ n₄ n₅ n₆ n₇ = refl
 
 -- the operands of a byte's command start where they are said to
 of-operands : (b p : ℕ) (c : Command) → commandOf b p ≡ Known c → operandsOf c ≡ p
@@ -50,7 +51,8 @@ of-operands (suc (suc (suc zero))) p c e = cc
 of-operands (suc (suc (suc (suc zero)))) p c e = cc
 of-operands (suc (suc (suc (suc (suc zero))))) p c e = cc
 of-operands (suc (suc (suc (suc (suc (suc zero)))))) p c e = cc
-of-operands (suc (suc (suc (suc (suc (suc (suc b))))))) p c e = cc
+of-operands (suc (suc (suc (suc (suc (suc (suc zero))))))) p c e = cc
+of-operands (suc (suc (suc (suc (suc (suc (suc (suc b)))))))) p c e = cc
 
 -- a byte is not the end
 of-end : (b p : ℕ) → commandOf b p ≡ Past → ⊥
@@ -62,7 +64,8 @@ of-end (suc (suc (suc zero))) p e = let z : _≡_ {A = ℕ} 0 1 = cc in omega ar
 of-end (suc (suc (suc (suc zero)))) p e = let z : _≡_ {A = ℕ} 0 1 = cc in omega arith
 of-end (suc (suc (suc (suc (suc zero))))) p e = let z : _≡_ {A = ℕ} 0 1 = cc in omega arith
 of-end (suc (suc (suc (suc (suc (suc zero)))))) p e = let z : _≡_ {A = ℕ} 0 1 = cc in omega arith
-of-end (suc (suc (suc (suc (suc (suc (suc b))))))) p e = let z : _≡_ {A = ℕ} 0 1 = cc in omega arith
+of-end (suc (suc (suc (suc (suc (suc (suc zero))))))) p e = let z : _≡_ {A = ℕ} 0 1 = cc in omega arith
+of-end (suc (suc (suc (suc (suc (suc (suc (suc b)))))))) p e = let z : _≡_ {A = ℕ} 0 1 = cc in omega arith
 
 -- a command stands inside the order, and its operands start behind its byte
 pub known-at : (order : List ℕ) (at : ℕ) (c : Command) → commandAt order at ≡ Known c → (operandsOf c ≡ at + 1) × (at < length order)
@@ -91,6 +94,7 @@ of-code (Exchange p) = refl
 of-code (Row p) = refl
 of-code (Coefficients p) = refl
 of-code (Vector p) = refl
+of-code (Image p) = refl
 of-code (End p) = refl
 
 -- so that a byte and the place of the operands tell a command
@@ -107,4 +111,5 @@ width-most (Exchange p) n m = omega arith
 width-most (Row p) n m = omega arith
 width-most (Coefficients p) n m = omega arith
 width-most (Vector p) n m = omega arith
+width-most (Image p) n m = omega arith
 width-most (End p) n m = omega arith

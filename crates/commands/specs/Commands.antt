@@ -6,7 +6,7 @@ use lib.Dec.{ltb}
 use Rattle.definitions.specs.Lists.{if_then_else_}
 use Rattle.commands.specs.declared.Command.{Command}
 use Rattle.commands.specs.declared.Command.the-variants.{Size, Generator, Exchange, Row, Coefficients}
-use Rattle.commands.specs.declared.Command.the-variants.{Vector, End}
+use Rattle.commands.specs.declared.Command.the-variants.{Vector, Image, End}
 use Rattle.commands.specs.declared.Reading.{Reading}
 use Rattle.commands.specs.declared.Reading.the-variants.{Known, Unknown, Past}
 
@@ -32,6 +32,9 @@ coefficientsCode = 5
 abbrev pub vectorCode : ℕ
 vectorCode = 6
 
+abbrev pub imageCode : ℕ
+imageCode = 7
+
 -- the command of a byte whose operands start at p
 unfoldable pub commandOf : (byte p : ℕ) → Reading
 commandOf zero p = Known (End p)
@@ -41,7 +44,8 @@ commandOf (suc (suc (suc zero))) p = Known (Exchange p)
 commandOf (suc (suc (suc (suc zero)))) p = Known (Row p)
 commandOf (suc (suc (suc (suc (suc zero))))) p = Known (Coefficients p)
 commandOf (suc (suc (suc (suc (suc (suc zero)))))) p = Known (Vector p)
-commandOf (suc (suc (suc (suc (suc (suc (suc b))))))) p = Unknown
+commandOf (suc (suc (suc (suc (suc (suc (suc zero))))))) p = Known (Image p)
+commandOf (suc (suc (suc (suc (suc (suc (suc (suc b)))))))) p = Unknown
 
 -- what stands at an offset where a command is due: its operands start one byte further on
 unfoldable pub commandAt : (order : List ℕ) (at : ℕ) → Reading
@@ -56,6 +60,7 @@ codeOf (Exchange p) = exchangeCode
 codeOf (Row p) = rowCode
 codeOf (Coefficients p) = coefficientsCode
 codeOf (Vector p) = vectorCode
+codeOf (Image p) = imageCode
 
 -- where its operands start
 abbrev pub operandsOf : Command → ℕ
@@ -66,6 +71,7 @@ operandsOf (Exchange p) = p
 operandsOf (Row p) = p
 operandsOf (Coefficients p) = p
 operandsOf (Vector p) = p
+operandsOf (Image p) = p
 
 -- how many bytes they take, with n cells and m generators
 abbrev pub widthOf : Command → (n m : ℕ) → ℕ
@@ -76,6 +82,7 @@ widthOf (Exchange p) n m = n
 widthOf (Row p) n m = 2 * n
 widthOf (Coefficients p) n m = 4 * m
 widthOf (Vector p) n m = 4 * n
+widthOf (Image p) n m = 4 * m
 
 -- where the next command is due: behind its operands
 abbrev pub behind : Command → (n m : ℕ) → ℕ

@@ -14,6 +14,7 @@ pub enum Command {
     Row(usize),
     Coefficients(usize),
     Vector(usize),
+    Image(usize),
     End(usize),
 }
 
@@ -39,6 +40,8 @@ pub const COEFFICIENTS: usize = 5;
 
 pub const VECTOR: usize = 6;
 
+pub const IMAGE: usize = 7;
+
 // The command that is due at an offset.
 pub fn command_at(order: &[u8], at: usize) -> Reading
     ensures due { λ r. ⌜ r ≡ commandAt (now (order .entry)) at ⌝ }
@@ -56,6 +59,7 @@ pub fn command_at(order: &[u8], at: usize) -> Reading
         4 => Reading::Known(Command::Row(p)),
         5 => Reading::Known(Command::Coefficients(p)),
         6 => Reading::Known(Command::Vector(p)),
+        7 => Reading::Known(Command::Image(p)),
         _ => Reading::Unknown,
     }
 }
@@ -72,6 +76,7 @@ pub fn code_of(command: Command) -> usize
         Command::Row(_) => ROW,
         Command::Coefficients(_) => COEFFICIENTS,
         Command::Vector(_) => VECTOR,
+        Command::Image(_) => IMAGE,
     }
 }
 
@@ -87,6 +92,7 @@ pub fn operands_of(command: Command) -> usize
         Command::Row(p) => p,
         Command::Coefficients(p) => p,
         Command::Vector(p) => p,
+        Command::Image(p) => p,
     }
 }
 
@@ -103,6 +109,7 @@ pub fn width_of(command: Command, n: usize, m: usize) -> usize
         Command::Row(_) => 2 * n,
         Command::Coefficients(_) => 4 * m,
         Command::Vector(_) => 4 * n,
+        Command::Image(_) => 4 * m,
     }
 }
 

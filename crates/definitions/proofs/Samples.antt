@@ -7,11 +7,11 @@ use Rattle.definitions.specs.Group.{named, distinctCells, isExchange, ex
 use Rattle.definitions.specs.Orbit.{signed, orbit, orbits, greatest, representative, rank, precedes}
 use Rattle.definitions.specs.Completion.{storedRows, firstState, begun, sumOf, sumAt, next, isFinished, firstBelow, reduced, remainder, settled, step, isOver, run, sumCount, completed, hasOtherBelow, finalRows}
 use Rattle.definitions.specs.Split.{placedOrbit, placedOrbits, cellTimes, timesUpTo, times, withPiece, splitting, sign, written, share}
-use Rattle.definitions.specs.Lent.{wholeRows, wholeRowsUpTo, chunks, rowsOf, filled, vectorsOf, numbersOf, generatorsOf, exchangesOf, listRows, groupRows, tableOf}
-use Rattle.definitions.specs.Refusals.{firstFault, faultIf, faultFrom, faultWhere, unlessFault, cellsFault, orderFits, sizeFault, splitSizeFault, broughtFits, isPast, isGenerator, leavesGenerators, numbersFault, symmetryFault, orderFault, admissionFault, splitFault, isUnfit, isMisplaced, isUncertified, rowsFault, sumsFault, wholenessFault}
+use Rattle.definitions.specs.Lent.{wholeRows, wholeRowsUpTo, chunks, rowsOf, filled, vectorsOf, numbersOf, isBare, generatorsOf, exchangesOf, listRows, groupRows, tableOf}
+use Rattle.definitions.specs.Refusals.{firstFault, faultIf, faultFrom, faultWhere, unlessFault, cellsFault, imagesFit, orderFits, sizeFault, splitSizeFault, broughtFits, isPast, isGenerator, leavesGenerators, isUncertified, leavingFault, sentImages, imagesFault, latticeFault, numbersFault, symmetryFault, orderFault, admissionFault, splitFault, isUnfit, isMisplaced, rowsFault, sumsFault, wholenessFault}
 use Rattle.definitions.specs.Calls.{listingOf, listing, listEnd, listCall, partsOf, parts, splitEnd, splitCall, rulesFault, checkFault, checkEnd, checkCall}
 use Rattle.definitions.specs.Samples.{called, samples, Hold}
 
 pub samples-hold : Hold samples
-unfolding range every any select concat inserted sorted padded zeros zeroVector plus negative minus scale total weight positiveSum degree within isZero cellBelow below cellOpposes opposes equalCell equal isMember greater combination named distinctCells isExchange exchanged identity composed earlier withRow withRows products closure groupTable signed orbit orbits greatest representative rank precedes storedRows firstState begun sumOf sumAt next isFinished firstBelow reduced remainder settled step isOver run sumCount completed hasOtherBelow finalRows placedOrbit placedOrbits cellTimes timesUpTo times withPiece splitting sign written share wholeRows wholeRowsUpTo chunks rowsOf filled vectorsOf numbersOf generatorsOf exchangesOf listRows groupRows tableOf firstFault faultIf faultFrom faultWhere unlessFault cellsFault orderFits sizeFault splitSizeFault broughtFits isPast isGenerator leavesGenerators numbersFault symmetryFault orderFault admissionFault splitFault isUnfit isMisplaced isUncertified rowsFault sumsFault wholenessFault listingOf listing listEnd listCall partsOf parts splitEnd splitCall rulesFault checkFault checkEnd checkCall called samples
-samples-hold = (refl, (refl, (refl, (refl, (refl, (refl, (refl, (refl, (refl, (refl, (refl, (refl, (refl, (refl, tt))))))))))))))
+unfolding range every any select concat inserted sorted padded zeros zeroVector plus negative minus scale total weight positiveSum degree within isZero cellBelow below cellOpposes opposes equalCell equal isMember greater combination named distinctCells isExchange exchanged identity composed earlier withRow withRows products closure groupTable signed orbit orbits greatest representative rank precedes storedRows firstState begun sumOf sumAt next isFinished firstBelow reduced remainder settled step isOver run sumCount completed hasOtherBelow finalRows placedOrbit placedOrbits cellTimes timesUpTo times withPiece splitting sign written share wholeRows wholeRowsUpTo chunks rowsOf filled vectorsOf numbersOf isBare generatorsOf exchangesOf listRows groupRows tableOf firstFault faultIf faultFrom faultWhere unlessFault cellsFault imagesFit orderFits sizeFault splitSizeFault broughtFits isPast isGenerator leavesGenerators isUncertified leavingFault sentImages imagesFault latticeFault numbersFault symmetryFault orderFault admissionFault splitFault isUnfit isMisplaced rowsFault sumsFault wholenessFault listingOf listing listEnd listCall partsOf parts splitEnd splitCall rulesFault checkFault checkEnd checkCall called samples
+samples-hold = (refl, (refl, (refl, (refl, (refl, (refl, (refl, (refl, (refl, (refl, (refl, (refl, (refl, (refl, (refl, (refl, (refl, (refl, (refl, (refl, tt))))))))))))))))))))

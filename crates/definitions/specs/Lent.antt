@@ -1,5 +1,5 @@
 -- Specification 1.1 and 7.3: orders and lent areas. Assumes nothing.
-use mathlib.Core.Bool.{Bool, _&&_}
+use mathlib.Core.Bool.{Bool, _&&_, not}
 use mathlib.Core.List.{List, [], _∷_, _++_, map}
 use Prim.Native.Nat.{ℕ, zero, suc, _-_, _/_, _%_, min}
 use lib.IntN.{ℤ}
@@ -39,14 +39,20 @@ vectorsOf n numbers = map padded (rowsOf n numbers)
 unfoldable pub numbersOf : (n : ℕ) (vectors : List Vector) → List ℤ
 numbersOf n vectors = concat (map (take n) vectors)
 
--- 1.1: what each call is sent: the number of cells, the generators and the exchanges
+-- 1.1: what each call is sent: the number of cells, the generators, the exchanges, and the coefficients of images
 pub record Order : Type 0 where
   pub n : ℕ
   pub generators : List ℤ
   pub exchanges : List ℕ
+  pub images : List ℤ
 
-abbrev pub orderOf : (n : ℕ) (generators : List ℤ) (exchanges : List ℕ) → Order
-orderOf n generators exchanges = record { n = n; generators = generators; exchanges = exchanges }
+abbrev pub orderOf : (n : ℕ) (generators : List ℤ) (exchanges : List ℕ) (images : List ℤ) → Order
+orderOf n generators exchanges images =
+    record { n = n; generators = generators; exchanges = exchanges; images = images }
+
+-- 2.9: a bare order sends coefficients of images
+unfoldable pub isBare : Order → Bool
+isBare order = not (eqb (length (order .images)) 0)
 
 unfoldable pub generatorsOf : Order → List Vector
 generatorsOf order = vectorsOf (order .n) (order .generators)

@@ -25,11 +25,19 @@ generatorLimit = 64
 abbrev pub exchangeLimit : ℕ
 exchangeLimit = 8
 
+-- 6: the most generators of a bare order
+abbrev pub bareLimit : ℕ
+bareLimit = 16
+
+-- 23: the greatest absolute value of a coefficient of an image
+abbrev pub imageLimit : ℕ
+imageLimit = 1_000_000
+
 -- 14: the greatest absolute value of an entry of a vector to split
 abbrev pub splitLimit : ℕ
 splitLimit = 1_000_000
 
--- 19: the greatest absolute value of a coefficient
+-- 19: the greatest absolute value of a coefficient of a brought row
 abbrev pub coefficientLimit : ℕ
 coefficientLimit = 1_000_000
 

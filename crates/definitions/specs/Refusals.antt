@@ -1,6 +1,6 @@
 -- Specification 7: the table of refusals, for lent calls. 12 and 13 are in Completion. Assumes nothing.
 use mathlib.Core.Bool.{Bool, false, _&&_, _||_, not}
-use mathlib.Core.List.{List, [], _∷_}
+use mathlib.Core.List.{List, [], _∷_, _++_, map}
 use Prim.Native.Nat.{ℕ, zero, suc, _+_, _*_, _/_}
 use lib.IntN.{ℤ, pos, natAbs}
 use lib.Dec.{leb, eqb}
@@ -8,7 +8,7 @@ use lib.ListN.{length, getD}
 use Rattle.definitions.specs.declared.Fault.{Fault}
 use Rattle.definitions.specs.declared.Fault.the-variants.{None, At}
 use Rattle.definitions.specs.Limits.{cells, entryLimit, splitLimit, coefficientLimit}
-use Rattle.definitions.specs.Limits.{listLimit, generatorLimit, exchangeLimit, pieceWidth}
+use Rattle.definitions.specs.Limits.{listLimit, generatorLimit, exchangeLimit, bareLimit, imageLimit, pieceWidth}
 use Rattle.definitions.specs.Lists.{if_then_else_, any}
 use Rattle.definitions.specs.Vector.{Vector, negative, within, isZero, equal, isMember}
 use Rattle.definitions.specs.Lattice.{combination}
@@ -17,7 +17,7 @@ use Rattle.definitions.specs.Orbit.{representative, precedes}
 use Rattle.definitions.specs.Completion.{State, firstState, sumAt, next, isFinished, sumCount}
 use Rattle.definitions.specs.Completion.{remainder, hasOtherBelow}
 use Rattle.definitions.specs.Split.{Splitting}
-use Rattle.definitions.specs.Lent.{Order, generatorsOf, exchangesOf, groupRows, tableOf}
+use Rattle.definitions.specs.Lent.{Order, isBare, generatorsOf, exchangesOf, groupRows, tableOf}
 use Rattle.definitions.specs.Lent.{wholeRows, wholeRowsUpTo, chunks}
 
 -- ---- 7.1: how tests are run
@@ -58,11 +58,19 @@ unlessFault (At number place) outcome = refused number place
 unfoldable pub cellsFault : (n : ℕ) → Fault
 cellsFault n = faultIf 5 (not (leb 1 n && leb n cells))
 
--- the generators and the exchanges are whole rows, not too many
+-- the order is not bare; or it has few generators, and m coefficients for each exchange and generator
+unfoldable pub imagesFit : Order → Bool
+imagesFit order =
+    let m = length (order .generators) / order .n in
+    let e = length (order .exchanges) / order .n in
+    not (isBare order) || (leb m bareLimit && eqb (length (order .images)) (e * m * m))
+
+-- the generators and the exchanges are whole rows, not too many, and the images fit to them
 unfoldable pub orderFits : Order → Bool
 orderFits order =
     wholeRowsUpTo generatorLimit (order .n) (length (order .generators))
     && wholeRowsUpTo exchangeLimit (order .n) (length (order .exchanges))
+    && imagesFit order
 
 -- also the group area, and what else a call lends
 unfoldable pub sizeFault : Order → (groupSize : ℕ) (fits : Bool) → Fault
@@ -78,7 +86,7 @@ broughtFits order rows coefficients =
     wholeRowsUpTo listLimit (order .n) (length rows)
     && eqb (length coefficients) (length rows / order .n * (length (order .generators) / order .n))
 
--- ---- 7.2, generators and exchanges: 7 to 11
+-- ---- 7.2, generators and exchanges: 7 to 11, and 23
 
 unfoldable pub isPast : (limit : ℕ) → ℤ → Bool
 isPast limit x = not (leb (natAbs x) limit)
@@ -91,6 +99,36 @@ isGenerator generators v = isMember v generators || isMember (negative v) genera
 unfoldable pub leavesGenerators : (generators : List Vector) (sent : List Exchange) → Vector → Bool
 leavesGenerators generators sent v = any (λ s. not (isGenerator generators (exchanged s v))) sent
 
+-- 19 and 23: a coefficient is past the limit, or the combination is not the vector
+unfoldable pub isUncertified : (limit : ℕ) (generators : List Vector) (coefficients : List ℤ) → Vector → Bool
+isUncertified limit generators coefficients v =
+    any (isPast limit) coefficients || not (equal (combination coefficients generators) v)
+
+-- 11: some sent exchange takes a generator to no generator nor a negative of one
+unfoldable pub leavingFault : (generators : List Vector) (sent : List Exchange) → Fault
+leavingFault generators sent =
+    faultWhere 11 (length generators) (λ p. leavesGenerators generators sent (getD generators p []))
+
+-- the images of the generators by the sent exchanges, exchange by exchange
+unfoldable pub sentImages : (generators : List Vector) (sent : List Exchange) → List Vector
+sentImages generators [] = []
+sentImages generators (s ∷ sent) = map (exchanged s) generators ++ sentImages generators sent
+
+-- 23: such an image is not the combination of the generators with its coefficients, or one of these is past the limit
+unfoldable pub imagesFault : (generators : List Vector) (sent : List Exchange) (coefficients : List ℤ) → Fault
+imagesFault generators sent coefficients =
+    let images = sentImages generators sent in
+    let certificates = chunks (length generators) (length images) coefficients in
+    faultWhere 23 (length images)
+    (λ p. isUncertified imageLimit generators (getD certificates p []) (getD images p []))
+
+-- 23 of a bare order, 11 of any other
+unfoldable pub latticeFault : Order → Fault
+latticeFault order =
+    let shown = imagesFault (generatorsOf order) (exchangesOf order) (order .images) in
+    let closed = leavingFault (generatorsOf order) (exchangesOf order) in
+    if isBare order then shown else closed
+
 -- 7 to 9: the numbers that are sent
 unfoldable pub numbersFault : Order → Fault
 numbersFault order =
@@ -102,20 +140,19 @@ numbersFault order =
     ∷ faultWhere 9 (length sent) (λ p. not (isExchange (order .n) (getD sent p [])))
     ∷ [])
 
--- 10 and 11: the group, and the lattice that it keeps
+-- 10, and 11 or 23: the group, and the lattice that it keeps
 unfoldable pub symmetryFault : Order → (groupSize : ℕ) → Fault
 symmetryFault order groupSize =
-    let generators = generatorsOf order in
     firstFault
     (faultIf 10 (not (leb (length (tableOf order groupSize)) (groupRows (order .n) groupSize)))
-    ∷ faultWhere 11 (length generators) (λ p. leavesGenerators generators (exchangesOf order) (getD generators p []))
+    ∷ latticeFault order
     ∷ [])
 
--- 7 to 11
+-- 7 to 11, or 23
 unfoldable pub orderFault : Order → (groupSize : ℕ) → Fault
 orderFault order groupSize = firstFault (numbersFault order ∷ symmetryFault order groupSize ∷ [])
 
--- 5 to 11: the tests with which every call begins; `fits` says whether what else it lends has the right size
+-- 5 to 11, or 23: the tests with which every call begins; `fits` says whether what else it lends has the right size
 unfoldable pub admissionFault : Order → (groupSize : ℕ) (fits : Bool) → Fault
 admissionFault order groupSize fits =
     firstFault (cellsFault (order .n) ∷ sizeFault order groupSize fits ∷ orderFault order groupSize ∷ [])
@@ -141,11 +178,6 @@ unfoldable pub isMisplaced : (rows : List Vector) (r : ℕ) → Bool
 isMisplaced rows zero = false
 isMisplaced rows (suc r) = not (precedes (getD rows r []) (getD rows (suc r) []))
 
--- 19: a coefficient is past its limit, or the combination is not the row
-unfoldable pub isUncertified : (generators : List Vector) (coefficients : List ℤ) → Vector → Bool
-isUncertified generators coefficients row =
-    any (isPast coefficientLimit) coefficients || not (equal (combination coefficients generators) row)
-
 -- 17 to 19
 unfoldable pub rowsFault : (table : List Exchange) (generators rows : List Vector) (coefficients : List ℤ) → Fault
 rowsFault table generators rows coefficients =
@@ -153,7 +185,8 @@ rowsFault table generators rows coefficients =
     firstFault
     (faultWhere 17 (length rows) (λ r. isUnfit table (getD rows r []))
     ∷ faultWhere 18 (length rows) (isMisplaced rows)
-    ∷ faultWhere 19 (length rows) (λ r. isUncertified generators (getD certificates r []) (getD rows r []))
+    ∷ faultWhere 19 (length rows)
+    (λ r. isUncertified coefficientLimit generators (getD certificates r []) (getD rows r []))
     ∷ [])
 
 -- 21: the sums of step 2 over the brought rows, from the state on, up to `fuel` of them

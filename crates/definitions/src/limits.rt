@@ -18,11 +18,17 @@ pub const GENERATOR_LIMIT: usize = 64;
 // 6: the most exchanges.
 pub const EXCHANGE_LIMIT: usize = 8;
 
+// 6: the most generators of a bare order.
+pub const BARE_LIMIT: usize = 16;
+
+// 23: the greatest absolute value of a coefficient of an image.
+pub const IMAGE_LIMIT: u32 = 1_000_000;
+
 // 14: the greatest absolute value of an entry of a vector to split.
 pub const SPLIT_LIMIT: u32 = 1_000_000;
 
-// 19: the greatest absolute value of a coefficient.
-pub const COEFFICIENT_LIMIT: i64 = 1_000_000;
+// 19: the greatest absolute value of a coefficient of a brought row.
+pub const COEFFICIENT_LIMIT: u32 = 1_000_000;
 
 // The numbers that a piece takes in the pieces area.
 pub const PIECE_WIDTH: usize = 4;

@@ -9,6 +9,7 @@ use lib.ListN.{length, getD}
 use Rattle.definitions.specs.declared.Answer.{Answer}
 use Rattle.definitions.specs.declared.Answer.the-variants.{Moves, Split, Passed, Refused}
 use Rattle.definitions.specs.declared.Fault.{Fault}
+use Rattle.definitions.specs.Limits.{coefficientLimit}
 use Rattle.definitions.specs.Lists.{if_then_else_}
 use Rattle.definitions.specs.Vector.{Vector, within, isZero, equal}
 use Rattle.definitions.specs.Group.{Exchange, isExchange}
@@ -88,7 +89,8 @@ module _ (entries : ℕ) where
       firstFault
       (faultWhere 17 (length rows) (λ r. isUnfitWithin table (getD rows r []))
       ∷ faultWhere 18 (length rows) (isMisplaced rows)
-      ∷ faultWhere 19 (length rows) (λ r. isUncertified generators (getD certificates r []) (getD rows r []))
+      ∷ faultWhere 19 (length rows)
+      (λ r. isUncertified coefficientLimit generators (getD certificates r []) (getD rows r []))
       ∷ [])
 
   -- ---- List

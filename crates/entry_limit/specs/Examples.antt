@@ -30,15 +30,15 @@ checked order rows coefficients groupSize =
 
 -- (5000)
 abbrev pub single : Order
-single = orderOf 1 (pos 5000 ∷ []) []
+single = orderOf 1 (pos 5000 ∷ []) [] []
 
 -- (5000,0), with the exchange 2 1
 abbrev pub turned : Order
-turned = orderOf 2 (pos 5000 ∷ pos 0 ∷ []) (2 ∷ 1 ∷ [])
+turned = orderOf 2 (pos 5000 ∷ pos 0 ∷ []) (2 ∷ 1 ∷ []) []
 
 -- (2500,1), (2500,−1): the third sum is (5000,0)
 abbrev pub halves : Order
-halves = orderOf 2 (pos 2500 ∷ pos 1 ∷ pos 2500 ∷ negsuc 0 ∷ []) []
+halves = orderOf 2 (pos 2500 ∷ pos 1 ∷ pos 2500 ∷ negsuc 0 ∷ []) [] []
 
 -- its list: (0,2), (2500,−1), (2500,1), (5000,0), with coefficients 1 −1, 0 1, 1 0, 1 1
 abbrev pub halvesRows : List ℤ

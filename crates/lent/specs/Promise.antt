@@ -49,10 +49,10 @@ pub record ListLent (order : Order) (result : ℤ) (list : List ℤ) (group coun
   pub refused : (k : ℕ) → result ≡ negsuc k → ListZero list group × CountsZero counts
 
 -- .. of the order that is sent, in the areas that are lent
-abbrev pub KeepsLentList : (n : ℕ) (generators : Lent ℤ) (exchanges : Lent ℕ) (list : Lent ℤ) (group counts : Lent ℕ)
-    (result : ℤ) → Type 0
-KeepsLentList n generators exchanges list group counts result =
-    let order = sentOrder n generators exchanges in
+abbrev pub KeepsLentList : (n : ℕ) (generators : Lent ℤ) (exchanges : Lent ℕ) (images list : Lent ℤ)
+    (group counts : Lent ℕ) (result : ℤ) → Type 0
+KeepsLentList n generators exchanges images list group counts result =
+    let order = sentOrder n generators exchanges images in
     ListLent order result (now (list .exit)) (now (group .exit)) (now (counts .exit))
 
 -- ---- Split
@@ -87,10 +87,10 @@ pub record SplitLent (order : Order) (vector : List ℤ) (result : ℤ) (list : 
       → (result ≡ refusalOf 15 0) ↔ Outside order vector
 
 -- .. of the order and the vector that are sent, in the areas that are lent
-abbrev pub KeepsLentSplit : (n : ℕ) (generators : Lent ℤ) (exchanges : Lent ℕ) (vector list : Lent ℤ) (group : Lent ℕ)
-    (pieces : Lent ℤ) (counts : Lent ℕ) (result : ℤ) → Type 0
-KeepsLentSplit n generators exchanges vector list group pieces counts result =
-    let order = sentOrder n generators exchanges in
+abbrev pub KeepsLentSplit : (n : ℕ) (generators : Lent ℤ) (exchanges : Lent ℕ) (images vector list : Lent ℤ)
+    (group : Lent ℕ) (pieces : Lent ℤ) (counts : Lent ℕ) (result : ℤ) → Type 0
+KeepsLentSplit n generators exchanges images vector list group pieces counts result =
+    let order = sentOrder n generators exchanges images in
     SplitLent order (now (vector .entry)) result
     (now (list .exit)) (now (group .exit)) (now (pieces .exit)) (now (counts .exit))
 
@@ -122,8 +122,8 @@ pub record CheckLent (order : Order) (rows coefficients : List ℤ) (result : �
   pub refused : (k : ℕ) → result ≡ negsuc k → (group ≡ replicate (length group) 0) × CountsZero counts
 
 -- .. of the order and the list that are sent, in the areas that are lent
-abbrev pub KeepsLentCheck : (n : ℕ) (generators : Lent ℤ) (exchanges : Lent ℕ) (rows coefficients : Lent ℤ)
+abbrev pub KeepsLentCheck : (n : ℕ) (generators : Lent ℤ) (exchanges : Lent ℕ) (images rows coefficients : Lent ℤ)
     (group counts : Lent ℕ) (result : ℤ) → Type 0
-KeepsLentCheck n generators exchanges rows coefficients group counts result =
-    let order = sentOrder n generators exchanges in
+KeepsLentCheck n generators exchanges images rows coefficients group counts result =
+    let order = sentOrder n generators exchanges images in
     CheckLent order (now (rows .entry)) (now (coefficients .entry)) result (now (group .exit)) (now (counts .exit))

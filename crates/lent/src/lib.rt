@@ -93,13 +93,14 @@ pub extern "C" fn sukoreta_lent_list(
     n: usize,
     generators: &[i32],
     exchanges: &[u8],
+    images: &[i64],
     list: &mut [i32],
     group: &mut [u8],
     counts: &mut [u64],
 ) -> i64
-    ensures kept { λ r. ⌜ KeepsLentList n generators exchanges list group counts r ⌝ }
+    ensures kept { λ r. ⌜ KeepsLentList n generators exchanges images list group counts r ⌝ }
 {
-    let answer = moves::list(n, generators, exchanges, &mut *list, &mut *group);
+    let answer = moves::list(n, generators, exchanges, images, &mut *list, &mut *group);
     let result = report(counts, answer);
     if result < 0 {
         clear(list, 0);
@@ -116,18 +117,20 @@ pub extern "C" fn sukoreta_lent_split(
     n: usize,
     generators: &[i32],
     exchanges: &[u8],
+    images: &[i64],
     vector: &[i32],
     list: &mut [i32],
     group: &mut [u8],
     pieces: &mut [i32],
     counts: &mut [u64],
 ) -> i64
-    ensures kept { λ r. ⌜ KeepsLentSplit n generators exchanges vector list group pieces counts r ⌝ }
+    ensures kept { λ r. ⌜ KeepsLentSplit n generators exchanges images vector list group pieces counts r ⌝ }
 {
     let answer = moves::split(
         n,
         generators,
         exchanges,
+        images,
         vector,
         &mut *list,
         &mut *group,
@@ -150,14 +153,23 @@ pub extern "C" fn sukoreta_lent_check(
     n: usize,
     generators: &[i32],
     exchanges: &[u8],
+    images: &[i64],
     rows: &[i32],
     coefficients: &[i64],
     group: &mut [u8],
     counts: &mut [u64],
 ) -> i64
-    ensures kept { λ r. ⌜ KeepsLentCheck n generators exchanges rows coefficients group counts r ⌝ }
+    ensures kept { λ r. ⌜ KeepsLentCheck n generators exchanges images rows coefficients group counts r ⌝ }
 {
-    let answer = moves::check(n, generators, exchanges, rows, coefficients, &mut *group);
+    let answer = moves::check(
+        n,
+        generators,
+        exchanges,
+        images,
+        rows,
+        coefficients,
+        &mut *group,
+    );
     let result = report(counts, answer);
     if result < 0 {
         clear_bytes(group, 0);

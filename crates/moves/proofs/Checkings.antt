@@ -1,7 +1,7 @@
 -- How a Check ends, and what that promises (Specification 5 and 7.4). Assumes nothing.
 use mathlib.Core.Path.{_≡_, refl, sym, _∙_, ap, ap₂, subst}
 use mathlib.Core.List.{List, [], _∷_}
-use Prim.Native.Nat.{ℕ, _*_, _/_, _≤_}
+use Prim.Native.Nat.{ℕ, _/_}
 use native.Mathlib.Omega.{arith}
 use lib.IntN.{ℤ}
 use lib.ListN.{length, replicate}
@@ -52,15 +52,14 @@ pub brought-ready : {shape : Shape} {generators rows coefficients : List ℤ} {g
     → Brought shape group rows
 brought-ready {shape} {generators} {rows} {coefficients} {group} G Z passed =
     let n : ℕ = shape .n in
-    let enough : length (vectorsOf n rows) * length (vectorsOf n generators) ≤ length coefficients = omega (arith, Z .oneEach, ap₂ _*_ (vectors-count n rows) (vectors-count n generators)) in
     record {
       rowsOfTable = G .table;
       some = G .some;
       small = G .small;
       whole = Z .whole;
       few = Z .few;
-      entries = rows-limited (G .admissible .symmetric) (vectorsOf n rows) coefficients enough passed;
-      positive = orbits-positive (G .admissible .symmetric) (vectorsOf n rows) (rows-stored (G .admissible .symmetric) (vectorsOf n rows) coefficients enough passed);
+      entries = rows-limited (G .admissible .symmetric) (vectorsOf n rows) coefficients passed;
+      positive = orbits-positive (G .admissible .symmetric) (vectorsOf n rows) (rows-stored (G .admissible .symmetric) (vectorsOf n rows) coefficients passed);
     }
 
 -- none of 5 to 11 is met

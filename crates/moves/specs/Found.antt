@@ -155,11 +155,11 @@ pub record Checks (rows size : ℕ) (table : List Exchange) (fault : Fault) (gro
   pub answer : r ≡ checkedOf rows (length table) fault
   pub held : fault ≡ None → group ≡ filled 0 size (concat table)
 
--- .. the tests 5 to 22 of a Check
-abbrev pub ChecksIn : (n : ℕ) (generators : Lent ℤ) (exchanges : Lent ℕ) (rows coefficients : Lent ℤ)
+-- .. the tests of a Check
+abbrev pub ChecksIn : (n : ℕ) (generators : Lent ℤ) (exchanges : Lent ℕ) (images rows coefficients : Lent ℤ)
     (group : Lent ℕ) (r : Checked) → Type 0
-ChecksIn n generators exchanges rows coefficients group r =
-    let order = sentOrder n generators exchanges in
+ChecksIn n generators exchanges images rows coefficients group r =
+    let order = sentOrder n generators exchanges images in
     let size = length (now (group .entry)) in
     let fault = checkFault order (now (rows .entry)) (now (coefficients .entry)) size in
     Checks (length (now (rows .entry)) / n) size (tableOf order size) fault (now (group .exit)) r

@@ -46,10 +46,10 @@ pub record ListPromise (order : Order) (listSize groupSize : ℕ) (answer : Answ
   pub refused : (number place : ℕ) → answer ≡ Refused number place → ListZero list group
 
 -- .. of the order that is sent, in the areas that are lent
-abbrev pub KeepsList : (n : ℕ) (generators : Lent ℤ) (exchanges : Lent ℕ) (list : Lent ℤ) (group : Lent ℕ)
+abbrev pub KeepsList : (n : ℕ) (generators : Lent ℤ) (exchanges : Lent ℕ) (images list : Lent ℤ) (group : Lent ℕ)
     (answer : Answer) → Type 0
-KeepsList n generators exchanges list group answer =
-    let order = sentOrder n generators exchanges in
+KeepsList n generators exchanges images list group answer =
+    let order = sentOrder n generators exchanges images in
     ListPromise order (length (now (list .entry))) (length (now (group .entry))) answer
     (now (list .exit)) (now (group .exit))
 
@@ -99,10 +99,10 @@ pub record SplitPromise (order : Order) (vector : List ℤ) (listSize groupSize 
       → (answer ≡ Refused 15 0) ↔ (¬ (InLattice (generatorsOf order) (padded vector)))
 
 -- .. of the order and the vector that are sent, in the areas that are lent
-abbrev pub KeepsSplit : (n : ℕ) (generators : Lent ℤ) (exchanges : Lent ℕ) (vector list : Lent ℤ) (group : Lent ℕ)
-    (pieces : Lent ℤ) (answer : Answer) → Type 0
-KeepsSplit n generators exchanges vector list group pieces answer =
-    let order = sentOrder n generators exchanges in
+abbrev pub KeepsSplit : (n : ℕ) (generators : Lent ℤ) (exchanges : Lent ℕ) (images vector list : Lent ℤ)
+    (group : Lent ℕ) (pieces : Lent ℤ) (answer : Answer) → Type 0
+KeepsSplit n generators exchanges images vector list group pieces answer =
+    let order = sentOrder n generators exchanges images in
     SplitPromise order (now (vector .entry))
     (length (now (list .entry))) (length (now (group .entry))) (length (now (pieces .entry))) answer
     (now (list .exit)) (now (group .exit)) (now (pieces .exit))
@@ -144,9 +144,9 @@ pub record CheckPromise (order : Order) (rows coefficients : List ℤ) (groupSiz
   pub refused : (number place : ℕ) → answer ≡ Refused number place → group ≡ replicate (length group) 0
 
 -- .. of the order and the list that are sent, in the group area that is lent
-abbrev pub KeepsCheck : (n : ℕ) (generators : Lent ℤ) (exchanges : Lent ℕ) (rows coefficients : Lent ℤ)
+abbrev pub KeepsCheck : (n : ℕ) (generators : Lent ℤ) (exchanges : Lent ℕ) (images rows coefficients : Lent ℤ)
     (group : Lent ℕ) (answer : Answer) → Type 0
-KeepsCheck n generators exchanges rows coefficients group answer =
-    let order = sentOrder n generators exchanges in
+KeepsCheck n generators exchanges images rows coefficients group answer =
+    let order = sentOrder n generators exchanges images in
     CheckPromise order (now (rows .entry)) (now (coefficients .entry)) (length (now (group .entry))) answer
     (now (group .exit))

@@ -92,18 +92,19 @@ fn complete_list(generators: &[i32], list: &mut [i32], group: &[u8], shape: Shap
     }
 }
 
-// 5 to 13, and the areas of an accepted List (Specification 7.1).
+// 5 to 13 and 23, and the areas of an accepted List (Specification 7.1).
 fn make_list(
     n: usize,
     generators: &[i32],
     exchanges: &[u8],
+    images: &[i64],
     list: &mut [i32],
     group: &mut [u8],
 ) -> Listed
-    ensures found { λ r. ⌜ FindsIn n (listing (sentOrder n generators exchanges)) list group r ⌝ }
+    ensures found { λ r. ⌜ FindsIn n (listing (sentOrder n generators exchanges images)) list group r ⌝ }
 {
     let fits = refusals::whole_rows(n, list.len());
-    let admission = admit(n, generators, exchanges, fits, &mut *group);
+    let admission = admit(n, generators, exchanges, images, fits, &mut *group);
     match admission {
         Admission::Refused { number, place } => Listed::Refused { number, place },
         Admission::Members(g) => complete_list(generators, &mut *list, &*group, Shape { n, g }),
@@ -116,12 +117,13 @@ pub fn list(
     n: usize,
     generators: &[i32],
     exchanges: &[u8],
+    images: &[i64],
     list: &mut [i32],
     group: &mut [u8],
 ) -> Answer
-    ensures kept { λ r. ⌜ KeepsList n generators exchanges list group r ⌝ }
+    ensures kept { λ r. ⌜ KeepsList n generators exchanges images list group r ⌝ }
 {
-    let found = make_list(n, generators, exchanges, &mut *list, &mut *group);
+    let found = make_list(n, generators, exchanges, images, &mut *list, &mut *group);
     match found {
         Listed::Found {
             rows,
@@ -241,19 +243,20 @@ pub fn split(
     n: usize,
     generators: &[i32],
     exchanges: &[u8],
+    images: &[i64],
     vector: &[i32],
     basis: &mut [i32],
     group: &mut [u8],
     pieces: &mut [i32],
 ) -> Answer
-    ensures kept { λ r. ⌜ KeepsSplit n generators exchanges vector basis group pieces r ⌝ }
+    ensures kept { λ r. ⌜ KeepsSplit n generators exchanges images vector basis group pieces r ⌝ }
 {
     let fault = split_sizes(n, vector, pieces.len());
     if let Fault::At { number, place } = fault {
         return refuse_split(number, place, &mut *basis, &mut *group, &mut *pieces);
     }
     clear(pieces, 0);
-    let listed = list(n, generators, exchanges, &mut *basis, &mut *group);
+    let listed = list(n, generators, exchanges, images, &mut *basis, &mut *group);
     let Answer::Moves {
         rows,
         members,
@@ -311,19 +314,20 @@ fn unless_faulty(fault: Fault, rows: usize, g: usize) -> Checked
     }
 }
 
-// 5 to 22, and the group area of a list that passes (Specification 5.1).
+// 5 to 11, 17 to 22 and 23, and the group area of a list that passes (Specification 5.1).
 fn check_list(
     n: usize,
     generators: &[i32],
     exchanges: &[u8],
+    images: &[i64],
     rows: &[i32],
     coefficients: &[i64],
     group: &mut [u8],
 ) -> Checked
-    ensures checked { λ r. ⌜ ChecksIn n generators exchanges rows coefficients group r ⌝ }
+    ensures checked { λ r. ⌜ ChecksIn n generators exchanges images rows coefficients group r ⌝ }
 {
     let fits = refusals::brought_fits(n, generators, rows.len(), coefficients.len());
-    let admission = admit(n, generators, exchanges, fits, &mut *group);
+    let admission = admit(n, generators, exchanges, images, fits, &mut *group);
     match admission {
         Admission::Refused { number, place } => Checked::Refused { number, place },
         Admission::Members(g) => {
@@ -339,13 +343,22 @@ pub fn check(
     n: usize,
     generators: &[i32],
     exchanges: &[u8],
+    images: &[i64],
     rows: &[i32],
     coefficients: &[i64],
     group: &mut [u8],
 ) -> Answer
-    ensures kept { λ r. ⌜ KeepsCheck n generators exchanges rows coefficients group r ⌝ }
+    ensures kept { λ r. ⌜ KeepsCheck n generators exchanges images rows coefficients group r ⌝ }
 {
-    let found = check_list(n, generators, exchanges, rows, coefficients, &mut *group);
+    let found = check_list(
+        n,
+        generators,
+        exchanges,
+        images,
+        rows,
+        coefficients,
+        &mut *group,
+    );
     match found {
         Checked::Passed { rows, sums } => Answer::Passed { rows, sums },
         Checked::Refused { number, place } => {

@@ -1,8 +1,8 @@
 -- The commands of an accepted order: they are those that were counted, and the order has exactly their length (Specification 8.3). Assumes nothing.
 use mathlib.Core.Path.{_≡_, refl, sym, ap, subst, subst⁻¹, _∙_}
-use mathlib.Core.Bool.{_&&_}
+use mathlib.Core.Bool.{Bool, false, _&&_}
 use mathlib.Core.List.{List, [], _∷_}
-use Prim.Native.Nat.{ℕ, zero, suc, _+_, _≤_}
+use Prim.Native.Nat.{ℕ, zero, suc, _+_, _*_, _≤_}
 use native.Mathlib.Omega.{arith}
 use lib.Dec.{leb, ltb}
 use lib.ListN.{length, drop}
@@ -15,23 +15,23 @@ use Rattle.commands.specs.declared.Command.{Command}
 use Rattle.commands.specs.declared.Command.the-variants.{Size, End}
 use Rattle.commands.specs.declared.Reading.{Reading}
 use Rattle.commands.specs.declared.Reading.the-variants.{Known, Unknown, Past}
-use Rattle.commands.specs.Commands.{generatorCode, exchangeCode, rowCode, coefficientsCode, vectorCode, behind, codeOf, commandAt, operandsOf}
+use Rattle.commands.specs.Commands.{generatorCode, exchangeCode, imageCode, rowCode, coefficientsCode, vectorCode, behind, codeOf, commandAt, operandsOf}
 use Rattle.commands.specs.Decode.{byteAt}
 use Rattle.commands.proofs.Known.{known-at, past-at}
 use Rattle.orders.specs.declared.Service.{Service}
 use Rattle.orders.specs.declared.Service.the-variants.{List as ListService, Split, Check}
 use Rattle.orders.specs.declared.Phase.{Phase}
-use Rattle.orders.specs.declared.Phase.the-variants.{Empty, Generators, Exchanges, Vectors, Rows, Paired, Done}
+use Rattle.orders.specs.declared.Phase.the-variants.{Empty, Generators, Exchanges, Images, Vectors, Rows, Paired, Done}
 use Rattle.orders.specs.declared.Counts.{Counts}
 use Rattle.orders.specs.declared.Progress.{Progress}
 use Rattle.orders.specs.declared.Scanned.{Scanned}
 use Rattle.orders.specs.declared.Scanned.the-variants.{Counted}
 use Rattle.orders.specs.declared.Step.{Step}
-use Rattle.orders.specs.Grammar.{countedBy, mayStand, oneIf, phaseAfter, tooMany}
+use Rattle.orders.specs.Grammar.{countedBy, isImageDue, mayStand, oneIf, phaseAfter, tooMany}
 use Rattle.orders.specs.Scan.{refuse, pastBy, passed, admitted, stepFrom, stepOf, after, scanFrom, scanOf, start}
 use Rattle.orders.specs.Operands.{LiesIn, Readable, bytesOf, commandsFrom, commandsIn, many}
-use Rattle.orders.proofs.Grammar.{Head, generators, exchanges, Stands, size, generator, exchange, vector, row, further, coefficients, list-end, split-end, check-end, paired-end, stands}
-use Rattle.orders.proofs.Scans.{accepted-few}
+use Rattle.orders.proofs.Grammar.{Head, generators, exchanges, Body, head, images, Stands, size, generator, exchange, image, next-image, vector, row, further, coefficients, list-end, split-end, check-end, paired-end, stands}
+use Rattle.orders.proofs.Scans.{accepted-exact, accepted-few}
 
 -- ---- what is left of an accepted order
 
@@ -41,6 +41,7 @@ owed Rows = 1
 owed Empty = 0
 owed Generators = 0
 owed Exchanges = 0
+owed Images = 0
 owed Vectors = 0
 owed Paired = 0
 owed Done = 0
@@ -56,6 +57,7 @@ abbrev due : Service → Phase → ℕ
 due v Empty = vectorCount v
 due v Generators = vectorCount v
 due v Exchanges = vectorCount v
+due v Images = vectorCount v
 due v Vectors = 0
 due v Rows = 0
 due v Paired = 0
@@ -70,6 +72,7 @@ abbrev Settled : Phase → (s c : Counts) (commands : List Command) → Type 0
 Settled Empty s c commands = 1 ≤ c .cells
 Settled Generators s c commands = c .cells ≡ s .cells
 Settled Exchanges s c commands = Fixed s c commands
+Settled Images s c commands = Fixed s c commands
 Settled Vectors s c commands = Fixed s c commands
 Settled Rows s c commands = Fixed s c commands
 Settled Paired s c commands = Fixed s c commands
@@ -81,69 +84,81 @@ record Left (v : Service) (order : List ℕ) (h : Phase) (at : ℕ) (s c : Count
   long : at + bytesOf (c .cells) (c .generators) commands ≡ length order
   generators-left : s .generators + many generatorCode commands ≡ c .generators
   exchanges-left : s .exchanges + many exchangeCode commands ≡ c .exchanges
+  images-left : s .images + many imageCode commands ≡ c .images
   rows-left : s .rows + many rowCode commands ≡ c .rows
   coefficients-left : many coefficientsCode commands ≡ many rowCode commands + owed h
   vectors-left : many vectorCode commands ≡ due v h
   settled : Settled h s c commands
 
--- among generators and exchanges
-head-owed : {h : Phase} → Head h → owed h ≡ 0
-head-owed generators = refl
-head-owed exchanges = refl
+-- among generators, exchanges and images
+body-owed : {d : Bool} {h : Phase} → Body d h → owed h ≡ 0
+body-owed (head generators) = refl
+body-owed (head exchanges) = refl
+body-owed images = refl
 
-head-due : (v : Service) {h : Phase} → Head h → due v h ≡ vectorCount v
-head-due v generators = refl
-head-due v exchanges = refl
+body-due : (v : Service) {d : Bool} {h : Phase} → Body d h → due v h ≡ vectorCount v
+body-due v (head generators) = refl
+body-due v (head exchanges) = refl
+body-due v images = refl
 
-head-settled : (s c : Counts) (commands : List Command) {h : Phase} → Head h → Fixed s c commands → Settled h s c commands
-head-settled s c commands generators f = f .0
-head-settled s c commands exchanges f = f
+body-settled : (s c : Counts) (commands : List Command) {d : Bool} {h : Phase} → Body d h → Fixed s c commands → Settled h s c commands
+body-settled s c commands (head generators) f = f .0
+body-settled s c commands (head exchanges) f = f
+body-settled s c commands images f = f
 
 -- the cells are known there
-head-sized : {h : Phase} → Head h → h ≡ Empty → ⊥
-head-sized generators e = let z : _≡_ {A = ℕ} 0 1 = cc in omega arith
-head-sized exchanges e = let z : _≡_ {A = ℕ} 0 1 = cc in omega arith
+body-sized : {d : Bool} {h : Phase} → Body d h → h ≡ Empty → ⊥
+body-sized (head generators) e = let z : _≡_ {A = ℕ} 0 1 = cc in omega arith
+body-sized (head exchanges) e = let z : _≡_ {A = ℕ} 0 1 = cc in omega arith
+body-sized images e = let z : _≡_ {A = ℕ} 0 1 = cc in omega arith
+
+-- an exchange stands among them
+headed : {h : Phase} → Head h → Body false h
+headed k = head k
 
 module _ (order : List ℕ) where
   -- END is the last command
-  left-end : {v : Service} {h : Phase} (at p : ℕ) (s : Counts) → Stands v h (End p) → p ≡ at + 1 → length order ≡ p → Left v order h at s (countedBy s (End p)) (End p ∷ [])
+  left-end : {v : Service} {d : Bool} {h : Phase} (at p : ℕ) (s : Counts) → Stands v d h (End p) → p ≡ at + 1 → length order ≡ p → Left v order h at s (countedBy s (End p)) (End p ∷ [])
   unfolding bytesOf many oneIf
-  left-end {v} {h} at p s stand e l = record {
+  left-end {v} {d} {h} at p s stand e l = record {
     whole = each-cons {x = End p} (omega arith) each-nil;
     long = omega arith;
     generators-left = omega arith;
     exchanges-left = omega arith;
+    images-left = omega arith;
     rows-left = omega arith;
     coefficients-left = owes stand;
     vectors-left = dues stand;
     settled = settles stand;
   }
     where
-      owes : {v : Service} {h : Phase} → Stands v h (End p) → 0 ≡ 0 + owed h
-      owes (list-end p k) = omega (arith, head-owed k)
+      owes : {v : Service} {d : Bool} {h : Phase} → Stands v d h (End p) → 0 ≡ 0 + owed h
+      owes (list-end p k) = omega (arith, body-owed k)
       owes (split-end p) = refl
-      owes (check-end p k) = omega (arith, head-owed k)
+      owes (check-end p k) = omega (arith, body-owed k)
       owes (paired-end p) = refl
 
-      dues : {v : Service} {h : Phase} → Stands v h (End p) → 0 ≡ due v h
-      dues (list-end p k) = sym (head-due ListService k)
+      dues : {v : Service} {d : Bool} {h : Phase} → Stands v d h (End p) → 0 ≡ due v h
+      dues (list-end p k) = sym (body-due ListService k)
       dues (split-end p) = refl
-      dues (check-end p k) = sym (head-due Check k)
+      dues (check-end p k) = sym (body-due Check k)
       dues (paired-end p) = refl
 
-      settles : {v : Service} {h : Phase} → Stands v h (End p) → Settled h s (countedBy s (End p)) (End p ∷ [])
-      settles (list-end p k) = head-settled s (countedBy s (End p)) (End p ∷ []) k (refl, refl)
+      settles : {v : Service} {d : Bool} {h : Phase} → Stands v d h (End p) → Settled h s (countedBy s (End p)) (End p ∷ [])
+      settles (list-end p k) = body-settled s (countedBy s (End p)) (End p ∷ []) k (refl, refl)
       settles (split-end p) = (refl, refl)
-      settles (check-end p k) = head-settled s (countedBy s (End p)) (End p ∷ []) k (refl, refl)
+      settles (check-end p k) = body-settled s (countedBy s (End p)) (End p ∷ []) k (refl, refl)
       settles (paired-end p) = (refl, refl)
 
   -- the operands of a command that goes on take with the counts of all what they take with those so far
-  same-end : {v : Service} {h : Phase} {x : Command} (at : ℕ) (s c : Counts) (commands : List Command) → Stands v h x → Left v order (phaseAfter x) at (countedBy s x) c commands
+  same-end : {v : Service} {d : Bool} {h : Phase} {x : Command} (at : ℕ) (s c : Counts) (commands : List Command) → Stands v d h x → Left v order (phaseAfter x) at (countedBy s x) c commands
       → behind x (c .cells) (c .generators) ≡ behind x (s .cells) (s .generators)
   unfolding oneIf
   same-end at s c commands (size p) left = refl
   same-end at s c commands (generator p) left = let n = left .settled in omega arith
   same-end at s c commands (exchange p k) left = let n = left .settled .0 in omega arith
+  same-end at s c commands (image p) left = let m = left .settled .1 in let g = left .generators-left in omega arith
+  same-end at s c commands (next-image p) left = let m = left .settled .1 in let g = left .generators-left in omega arith
   same-end at s c commands (vector p k) left = let n = left .settled .0 in omega arith
   same-end at s c commands (row p k) left = let n = left .settled .0 in omega arith
   same-end at s c commands (further p) left = let n = left .settled .0 in omega arith
@@ -155,14 +170,15 @@ module _ (order : List ℕ) where
 
   -- a command before those that are left, t being counted with it
   left-more : (v : Service) (h : Phase) (x : Command) (at : ℕ) (s t c : Counts) (commands : List Command) → operandsOf x ≡ at + 1 → behind x (c .cells) (c .generators) ≤ length order
-      → t .generators ≡ s .generators + oneIf x generatorCode → t .exchanges ≡ s .exchanges + oneIf x exchangeCode → t .rows ≡ s .rows + oneIf x rowCode
+      → t .generators ≡ s .generators + oneIf x generatorCode → t .exchanges ≡ s .exchanges + oneIf x exchangeCode → t .images ≡ s .images + oneIf x imageCode → t .rows ≡ s .rows + oneIf x rowCode
       → oneIf x coefficientsCode + owed (phaseAfter x) ≡ oneIf x rowCode + owed h → oneIf x vectorCode + due v (phaseAfter x) ≡ due v h → Settled h s c (x ∷ commands)
       → Left v order (phaseAfter x) (behind x (c .cells) (c .generators)) t c commands → Left v order h at s c (x ∷ commands)
   unfolding bytesOf many
-  left-more v h x at s t c commands starts fits g e r owes dues settles left =
+  left-more v h x at s t c commands starts fits g e i r owes dues settles left =
       let long = left .long in
       let gl = left .generators-left in
       let el = left .exchanges-left in
+      let il = left .images-left in
       let rl = left .rows-left in
       let cl = left .coefficients-left in
       let vl = left .vectors-left in
@@ -171,6 +187,7 @@ module _ (order : List ℕ) where
         long = omega arith;
         generators-left = omega arith;
         exchanges-left = omega arith;
+        images-left = omega arith;
         rows-left = omega arith;
         coefficients-left = omega arith;
         vectors-left = omega arith;
@@ -178,26 +195,30 @@ module _ (order : List ℕ) where
       }
 
   -- a command that goes on
-  left-step : {v : Service} {h : Phase} {x : Command} (at : ℕ) (s c : Counts) (commands : List Command) → Stands v h x → operandsOf x ≡ at + 1 → behind x (c .cells) (c .generators) ≤ length order
+  left-step : {v : Service} {d : Bool} {h : Phase} {x : Command} (at : ℕ) (s c : Counts) (commands : List Command) → Stands v d h x → operandsOf x ≡ at + 1 → behind x (c .cells) (c .generators) ≤ length order
       → Left v order (phaseAfter x) (behind x (c .cells) (c .generators)) (countedBy s x) c commands → (phaseAfter x ≡ Done → ⊥) → (h ≡ Empty → ⊥) → Left v order h at s c (x ∷ commands)
   unfolding oneIf many
-  left-step {v} {h} {x} at s c commands (size p) starts fits left go sized = absurd (sized refl)
-  left-step {v} {h} {x} at s c commands (generator p) starts fits left go sized =
-      left-more v h x at s (countedBy s x) c commands starts fits refl refl refl refl (omega arith) (left .settled) left
-  left-step {v} {h} {x} at s c commands (exchange p k) starts fits left go sized =
-      left-more v h x at s (countedBy s x) c commands starts fits refl refl refl (omega (arith, head-owed k)) (omega (arith, head-due v k)) (head-settled s c (x ∷ commands) k (left .settled .0, omega (arith, left .settled .1))) left
-  left-step {v} {h} {x} at s c commands (vector p k) starts fits left go sized =
-      left-more v h x at s (countedBy s x) c commands starts fits refl refl refl (omega (arith, head-owed k)) (omega (arith, head-due v k)) (head-settled s c (x ∷ commands) k (left .settled .0, omega (arith, left .settled .1))) left
-  left-step {v} {h} {x} at s c commands (row p k) starts fits left go sized =
-      left-more v h x at s (countedBy s x) c commands starts fits refl refl refl (omega (arith, head-owed k)) (omega (arith, head-due v k)) (head-settled s c (x ∷ commands) k (left .settled .0, omega (arith, left .settled .1))) left
-  left-step {v} {h} {x} at s c commands (further p) starts fits left go sized =
-      left-more v h x at s (countedBy s x) c commands starts fits refl refl refl refl refl (left .settled .0, omega (arith, left .settled .1)) left
-  left-step {v} {h} {x} at s c commands (coefficients p) starts fits left go sized =
-      left-more v h x at s (countedBy s x) c commands starts fits refl refl refl refl refl (left .settled .0, omega (arith, left .settled .1)) left
-  left-step {v} {h} {x} at s c commands (list-end p k) starts fits left go sized = absurd (go refl)
-  left-step {v} {h} {x} at s c commands (split-end p) starts fits left go sized = absurd (go refl)
-  left-step {v} {h} {x} at s c commands (check-end p k) starts fits left go sized = absurd (go refl)
-  left-step {v} {h} {x} at s c commands (paired-end p) starts fits left go sized = absurd (go refl)
+  left-step {v} {d} {h} {x} at s c commands (size p) starts fits left go sized = absurd (sized refl)
+  left-step {v} {d} {h} {x} at s c commands (generator p) starts fits left go sized =
+      left-more v h x at s (countedBy s x) c commands starts fits refl refl refl refl refl (omega arith) (left .settled) left
+  left-step {v} {d} {h} {x} at s c commands (exchange p k) starts fits left go sized =
+      left-more v h x at s (countedBy s x) c commands starts fits refl refl refl refl (omega (arith, body-owed (headed k))) (omega (arith, body-due v (headed k))) (body-settled s c (x ∷ commands) (headed k) (left .settled .0, omega (arith, left .settled .1))) left
+  left-step {v} {d} {h} {x} at s c commands (image p) starts fits left go sized =
+      left-more v h x at s (countedBy s x) c commands starts fits refl refl refl refl refl (omega arith) (left .settled .0, omega (arith, left .settled .1)) left
+  left-step {v} {d} {h} {x} at s c commands (next-image p) starts fits left go sized =
+      left-more v h x at s (countedBy s x) c commands starts fits refl refl refl refl refl (omega arith) (left .settled .0, omega (arith, left .settled .1)) left
+  left-step {v} {d} {h} {x} at s c commands (vector p k) starts fits left go sized =
+      left-more v h x at s (countedBy s x) c commands starts fits refl refl refl refl (omega (arith, body-owed k)) (omega (arith, body-due v k)) (body-settled s c (x ∷ commands) k (left .settled .0, omega (arith, left .settled .1))) left
+  left-step {v} {d} {h} {x} at s c commands (row p k) starts fits left go sized =
+      left-more v h x at s (countedBy s x) c commands starts fits refl refl refl refl (omega (arith, body-owed k)) (omega (arith, body-due v k)) (body-settled s c (x ∷ commands) k (left .settled .0, omega (arith, left .settled .1))) left
+  left-step {v} {d} {h} {x} at s c commands (further p) starts fits left go sized =
+      left-more v h x at s (countedBy s x) c commands starts fits refl refl refl refl refl refl (left .settled .0, omega (arith, left .settled .1)) left
+  left-step {v} {d} {h} {x} at s c commands (coefficients p) starts fits left go sized =
+      left-more v h x at s (countedBy s x) c commands starts fits refl refl refl refl refl refl (left .settled .0, omega (arith, left .settled .1)) left
+  left-step {v} {d} {h} {x} at s c commands (list-end p k) starts fits left go sized = absurd (go refl)
+  left-step {v} {d} {h} {x} at s c commands (split-end p) starts fits left go sized = absurd (go refl)
+  left-step {v} {d} {h} {x} at s c commands (check-end p k) starts fits left go sized = absurd (go refl)
+  left-step {v} {d} {h} {x} at s c commands (paired-end p) starts fits left go sized = absurd (go refl)
 
 -- ---- the scan and the commands
 
@@ -229,10 +250,10 @@ module _ (order : List ℕ) (c : Counts) where
   refused-says v fuel s rest number place e = absurd (let z : _≡_ {A = ℕ} 0 1 = cc in omega arith)
 
   -- a command that goes on to t, where it says it of those behind
-  says-next : {v : Service} {h : Phase} {x : Command} (fuel at : ℕ) (s : Counts) → Stands v h x → commandAt order at ≡ Known x → behind x (s .cells) (s .generators) ≤ length order
+  says-next : {v : Service} {d : Bool} {h : Phase} {x : Command} (fuel at : ℕ) (s : Counts) → Stands v d h x → commandAt order at ≡ Known x → behind x (s .cells) (s .generators) ≤ length order
       → Left v order (phaseAfter x) (behind x (s .cells) (s .generators)) (countedBy s x) c (commandsFrom fuel order n m (behind x (s .cells) (s .generators)))
       → (phaseAfter x ≡ Done → ⊥) → (h ≡ Empty → ⊥) → Left v order h at s c (commandsFrom (suc fuel) order n m at)
-  says-next {v} {h} {x} fuel at s stand k fits left go sized =
+  says-next {v} {d} {h} {x} fuel at s stand k fits left go sized =
       let rest = commandsFrom fuel order n m (behind x (s .cells) (s .generators)) in
       let same = same-end order (behind x (s .cells) (s .generators)) s c rest stand left in
       let left′ = subst⁻¹ (λ (a : ℕ). Left v order (phaseAfter x) a (countedBy s x) c (commandsFrom fuel order n m a)) same left in
@@ -241,18 +262,18 @@ module _ (order : List ℕ) (c : Counts) where
 
   -- SIZE with so many cells
   sized-says : {v : Service} (fuel at : ℕ) (s : Counts) (p : ℕ) → commandAt order at ≡ Known (Size p) → behind (Size p) 0 0 ≤ length order → (cells : ℕ) → 1 ≤ cells
-      → Left v order Generators (behind (Size p) 0 0) (record { cells = cells; generators = s .generators + oneIf (Size p) generatorCode; exchanges = s .exchanges + oneIf (Size p) exchangeCode; rows = s .rows + oneIf (Size p) rowCode }) c (commandsFrom fuel order n m (behind (Size p) 0 0))
+      → Left v order Generators (behind (Size p) 0 0) (record { cells = cells; generators = s .generators + oneIf (Size p) generatorCode; exchanges = s .exchanges + oneIf (Size p) exchangeCode; images = s .images + oneIf (Size p) imageCode; rows = s .rows + oneIf (Size p) rowCode }) c (commandsFrom fuel order n m (behind (Size p) 0 0))
       → Left v order Empty at s c (commandsFrom (suc fuel) order n m at)
   unfolding oneIf
   sized-says {v} fuel at s p k fits cells some left =
       subst⁻¹ (Left v order Empty at s c) (next-commands fuel at (Size p) k)
-      (left-more order v Empty (Size p) at s _ c (commandsFrom fuel order n m (behind (Size p) n m)) (known-at order at (Size p) k .0) fits refl refl refl refl (omega arith) (let e = left .settled in omega arith) left)
+      (left-more order v Empty (Size p) at s _ c (commandsFrom fuel order n m (behind (Size p) n m)) (known-at order at (Size p) k .0) fits refl refl refl refl refl (omega arith) (let e = left .settled in omega arith) left)
 
   -- END, and nothing behind it
-  end-says : {v : Service} {h : Phase} (fuel at : ℕ) (s : Counts) (p : ℕ) → Stands v h (End p) → commandAt order at ≡ Known (End p) → behind (End p) (s .cells) (s .generators) ≤ length order
+  end-says : {v : Service} {d : Bool} {h : Phase} (fuel at : ℕ) (s : Counts) (p : ℕ) → Stands v d h (End p) → commandAt order at ≡ Known (End p) → behind (End p) (s .cells) (s .generators) ≤ length order
       → Says v (suc fuel) (record { at = at; phase = h; counts = s }) (after (passed order (pastBy (record { at = at; phase = h; counts = s }) (End p)) (End p)) (scanFrom fuel v order))
   unfolding passed after
-  end-says {v} {h} fuel at s p stand k fits =
+  end-says {v} {d} {h} fuel at s p stand k fits =
       if-cases (λ (x : Step). Says v (suc fuel) (record { at = at; phase = h; counts = s }) (after x (scanFrom fuel v order))) (ltb p (length order))
       (λ e. refused-says v (suc fuel) (record { at = at; phase = h; counts = s }) (scanFrom fuel v order) 4 p)
       (λ e q.
@@ -264,7 +285,7 @@ module _ (order : List ℕ) (c : Counts) where
       subst⁻¹ (Left v order h at s c) (next-commands fuel at (End p) k ∙ ap (λ (l : List Command). End p ∷ l) none) left)
 
   -- a whole command that may stand, where it is said of every progress behind it
-  says-passed : {v : Service} {h : Phase} {x : Command} (fuel at : ℕ) (s : Counts) → Stands v h x → commandAt order at ≡ Known x → behind x (s .cells) (s .generators) ≤ length order
+  says-passed : {v : Service} {d : Bool} {h : Phase} {x : Command} (fuel at : ℕ) (s : Counts) → Stands v d h x → commandAt order at ≡ Known x → behind x (s .cells) (s .generators) ≤ length order
       → ((t : Progress) → Says v fuel t (scanFrom fuel v order t))
       → Says v (suc fuel) (record { at = at; phase = h; counts = s }) (after (passed order (pastBy (record { at = at; phase = h; counts = s }) x) x) (scanFrom fuel v order))
   unfolding passed after
@@ -273,19 +294,21 @@ module _ (order : List ℕ) (c : Counts) where
       if-cases (λ (x : Step). Says v (suc fuel) (record { at = at; phase = Empty; counts = s }) (after x (scanFrom fuel v order))) (leb 1 sizeOf && leb sizeOf cells)
       (λ e q. sized-says fuel at s p k fits sizeOf (leb-true 1 sizeOf (and-true-left (leb 1 sizeOf) (leb sizeOf cells) e)) (rest _ q))
       (λ e. refused-says v (suc fuel) (record { at = at; phase = Empty; counts = s }) (scanFrom fuel v order) 5 0)
-  says-passed fuel at s (generator p) k fits rest = λ q. says-next fuel at s (generator p) k fits (rest _ q) (λ e. let z : _≡_ {A = ℕ} 0 1 = cc in omega arith) (λ e. let z : _≡_ {A = ℕ} 0 1 = cc in omega arith)
-  says-passed fuel at s (exchange p h) k fits rest = λ q. says-next fuel at s (exchange p h) k fits (rest _ q) (λ e. let z : _≡_ {A = ℕ} 0 1 = cc in omega arith) (head-sized h)
-  says-passed fuel at s (vector p h) k fits rest = λ q. says-next fuel at s (vector p h) k fits (rest _ q) (λ e. let z : _≡_ {A = ℕ} 0 1 = cc in omega arith) (head-sized h)
-  says-passed fuel at s (row p h) k fits rest = λ q. says-next fuel at s (row p h) k fits (rest _ q) (λ e. let z : _≡_ {A = ℕ} 0 1 = cc in omega arith) (head-sized h)
-  says-passed fuel at s (further p) k fits rest = λ q. says-next fuel at s (further p) k fits (rest _ q) (λ e. let z : _≡_ {A = ℕ} 0 1 = cc in omega arith) (λ e. let z : _≡_ {A = ℕ} 0 1 = cc in omega arith)
-  says-passed fuel at s (coefficients p) k fits rest = λ q. says-next fuel at s (coefficients p) k fits (rest _ q) (λ e. let z : _≡_ {A = ℕ} 0 1 = cc in omega arith) (λ e. let z : _≡_ {A = ℕ} 0 1 = cc in omega arith)
+  says-passed {v} {d} fuel at s (generator p) k fits rest = λ q. says-next {d = d} fuel at s (generator p) k fits (rest _ q) (λ e. let z : _≡_ {A = ℕ} 0 1 = cc in omega arith) (λ e. let z : _≡_ {A = ℕ} 0 1 = cc in omega arith)
+  says-passed {v} {d} fuel at s (exchange p h) k fits rest = λ q. says-next {d = d} fuel at s (exchange p h) k fits (rest _ q) (λ e. let z : _≡_ {A = ℕ} 0 1 = cc in omega arith) (body-sized (headed h))
+  says-passed fuel at s (image p) k fits rest = λ q. says-next fuel at s (image p) k fits (rest _ q) (λ e. let z : _≡_ {A = ℕ} 0 1 = cc in omega arith) (λ e. let z : _≡_ {A = ℕ} 0 1 = cc in omega arith)
+  says-passed fuel at s (next-image p) k fits rest = λ q. says-next fuel at s (next-image p) k fits (rest _ q) (λ e. let z : _≡_ {A = ℕ} 0 1 = cc in omega arith) (λ e. let z : _≡_ {A = ℕ} 0 1 = cc in omega arith)
+  says-passed fuel at s (vector p h) k fits rest = λ q. says-next fuel at s (vector p h) k fits (rest _ q) (λ e. let z : _≡_ {A = ℕ} 0 1 = cc in omega arith) (body-sized h)
+  says-passed fuel at s (row p h) k fits rest = λ q. says-next fuel at s (row p h) k fits (rest _ q) (λ e. let z : _≡_ {A = ℕ} 0 1 = cc in omega arith) (body-sized h)
+  says-passed {v} {d} fuel at s (further p) k fits rest = λ q. says-next {d = d} fuel at s (further p) k fits (rest _ q) (λ e. let z : _≡_ {A = ℕ} 0 1 = cc in omega arith) (λ e. let z : _≡_ {A = ℕ} 0 1 = cc in omega arith)
+  says-passed {v} {d} fuel at s (coefficients p) k fits rest = λ q. says-next {d = d} fuel at s (coefficients p) k fits (rest _ q) (λ e. let z : _≡_ {A = ℕ} 0 1 = cc in omega arith) (λ e. let z : _≡_ {A = ℕ} 0 1 = cc in omega arith)
   says-passed fuel at s (list-end p h) k fits rest = end-says fuel at s p (list-end p h) k fits
-  says-passed fuel at s (split-end p) k fits rest = end-says fuel at s p (split-end p) k fits
+  says-passed {v} {d} fuel at s (split-end p) k fits rest = end-says {d = d} fuel at s p (split-end p) k fits
   says-passed fuel at s (check-end p h) k fits rest = end-says fuel at s p (check-end p h) k fits
-  says-passed fuel at s (paired-end p) k fits rest = end-says fuel at s p (paired-end p) k fits
+  says-passed {v} {d} fuel at s (paired-end p) k fits rest = end-says {d = d} fuel at s p (paired-end p) k fits
 
   -- a command that may stand
-  says-admitted : {v : Service} (fuel : ℕ) (s : Progress) (x : Command) → Stands v (s .phase) x → commandAt order (s .at) ≡ Known x → ((t : Progress) → Says v fuel t (scanFrom fuel v order t))
+  says-admitted : {v : Service} {d : Bool} (fuel : ℕ) (s : Progress) (x : Command) → Stands v d (s .phase) x → commandAt order (s .at) ≡ Known x → ((t : Progress) → Says v fuel t (scanFrom fuel v order t))
       → Says v (suc fuel) s (after (admitted order (s .at) (pastBy s x) x) (scanFrom fuel v order))
   unfolding admitted
   says-admitted {v} fuel s x stand k rest =
@@ -301,8 +324,8 @@ module _ (order : List ℕ) (c : Counts) where
   says-from v fuel s Past k rest = refused-says v (suc fuel) s (scanFrom fuel v order) 1 (length order)
   says-from v fuel s Unknown k rest = refused-says v (suc fuel) s (scanFrom fuel v order) 2 (s .at)
   says-from v fuel s (Known x) k rest =
-      if-cases (λ (y : Step). Says v (suc fuel) s (after y (scanFrom fuel v order))) (mayStand v (s .phase) (codeOf x))
-      (λ e. says-admitted fuel s x (stands v (s .phase) x e) k rest) (λ e. refused-says v (suc fuel) s (scanFrom fuel v order) 3 (s .at))
+      if-cases (λ (y : Step). Says v (suc fuel) s (after y (scanFrom fuel v order))) (mayStand v (isImageDue (s .counts)) (s .phase) (codeOf x))
+      (λ e. says-admitted fuel s x (stands v (isImageDue (s .counts)) (s .phase) x e) k rest) (λ e. refused-says v (suc fuel) s (scanFrom fuel v order) 3 (s .at))
 
   -- from any command on
   says : (v : Service) (fuel : ℕ) (s : Progress) → Says v fuel s (scanFrom fuel v order s)
@@ -312,12 +335,14 @@ module _ (order : List ℕ) (c : Counts) where
 
 -- ---- an accepted order
 
--- its counts keep the limits; its commands are whole, take all its bytes, and are those that were counted
+-- its counts keep the limits; its commands are whole, take all its bytes, and are those that were counted; it has all IMAGEs or none
 pub record Accepted (v : Service) (order : List ℕ) (c : Counts) : Type 0 where
   pub readable : Readable order c
   pub long : length order ≡ bytesOf (c .cells) (c .generators) (commandsIn order c)
   pub generators-many : many generatorCode (commandsIn order c) ≡ c .generators
   pub exchanges-many : many exchangeCode (commandsIn order c) ≡ c .exchanges
+  pub images-many : many imageCode (commandsIn order c) ≡ c .images
+  pub images-due : 1 ≤ c .images → c .images ≡ c .exchanges * c .generators
   pub rows-many : many rowCode (commandsIn order c) ≡ c .rows
   pub coefficients-many : many coefficientsCode (commandsIn order c) ≡ c .rows
   pub vectors-many : many vectorCode (commandsIn order c) ≡ vectorCount v
@@ -328,14 +353,18 @@ accepted v order c e =
     let left = says order c v (suc (length order)) start e in
     let g = left .generators-left in
     let x = left .exchanges-left in
+    let i = left .images-left in
     let r = left .rows-left in
     let k = left .coefficients-left in
     let l = left .long in
+    let few = accepted-few v order c e .0 in
     record {
-      readable = record { limited = record { some = left .settled; few = accepted-few v order c e .0 }; whole = left .whole };
+      readable = record { limited = record { some = left .settled; few = few }; whole = left .whole };
       long = omega arith;
       generators-many = omega arith;
       exchanges-many = omega arith;
+      images-many = omega arith;
+      images-due = λ h. omega (arith, accepted-exact v order c e h);
       rows-many = omega arith;
       coefficients-many = omega arith;
       vectors-many = left .vectors-left;

@@ -11,13 +11,13 @@ use borrow.Author.Tests.{eq-eqb, ne-eqb}
 use Rattle.definitions.specs.Lists.{if_then_else_, range}
 use Rattle.theory.proofs.Lists.{range-length}
 use Rattle.commands.specs.declared.Command.{Command}
-use Rattle.commands.specs.Commands.{generatorCode, exchangeCode, rowCode, coefficientsCode, vectorCode, codeOf, operandsOf}
+use Rattle.commands.specs.Commands.{generatorCode, exchangeCode, imageCode, rowCode, coefficientsCode, vectorCode, codeOf, operandsOf}
 use Rattle.commands.specs.Decode.{byteAt, signedAt}
 use Rattle.orders.specs.declared.Service.{Service}
 use Rattle.orders.specs.declared.Service.the-variants.{Split}
 use Rattle.orders.specs.declared.Counts.{Counts}
 use Rattle.orders.specs.Grammar.{oneIf}
-use Rattle.orders.specs.Operands.{signedNumbers, byteNumbers, commandNumbers, gathered, many, commandsIn, generatorsIn, exchangesIn, rowsIn, coefficientsIn, vectorIn}
+use Rattle.orders.specs.Operands.{signedNumbers, byteNumbers, commandNumbers, gathered, many, commandsIn, generatorsIn, exchangesIn, imagesIn, rowsIn, coefficientsIn, vectorIn}
 use Rattle.orders.proofs.Commands.{Accepted}
 
 -- `count` signed numbers
@@ -67,6 +67,11 @@ module _ (v : Service) (order : List ℕ) (c : Counts) (a : Accepted v order c) 
   pub exchanges-count : length (exchangesIn order c) ≡ c .exchanges * c .cells
   unfolding exchangesIn
   exchanges-count = gathered-count exchangeCode (byteNumbers (c .cells)) order (c .cells) (byte-count (c .cells)) (commandsIn order c) ∙ ap (λ (k : ℕ). k * c .cells) (a .exchanges-many)
+
+  pub images-count : length (imagesIn order c) ≡ c .images * c .generators
+  unfolding imagesIn
+  images-count =
+      gathered-count imageCode (signedNumbers 4 (c .generators)) order (c .generators) (signed-count 4 (c .generators)) (commandsIn order c) ∙ ap (λ (k : ℕ). k * c .generators) (a .images-many)
 
   pub rows-count : length (rowsIn order c) ≡ c .rows * c .cells
   unfolding rowsIn

@@ -12,7 +12,7 @@ use borrow.Author.Tests.{lt-ltb, le-ltb}
 use Rattle.definitions.specs.Limits.{cells, orderLimit}
 use Rattle.definitions.specs.Lists.{if_then_else_}
 use Rattle.commands.specs.declared.Command.{Command}
-use Rattle.commands.specs.declared.Command.the-variants.{Size, Generator, Exchange, Row, Coefficients, Vector, End}
+use Rattle.commands.specs.declared.Command.the-variants.{Size, Generator, Exchange, Row, Coefficients, Vector, Image, End}
 use Rattle.commands.specs.declared.Reading.{Reading}
 use Rattle.commands.specs.declared.Reading.the-variants.{Known, Unknown, Past}
 use Rattle.commands.specs.Commands.{codeOf, commandAt, operandsOf}
@@ -25,7 +25,7 @@ use Rattle.orders.specs.declared.Scanned.{Scanned}
 use Rattle.orders.specs.declared.Scanned.the-variants.{Counted}
 use Rattle.orders.specs.declared.Step.{Step}
 use Rattle.orders.specs.declared.Step.the-variants.{Next, Stop}
-use Rattle.orders.specs.Grammar.{mayStand}
+use Rattle.orders.specs.Grammar.{isImageDue, mayStand}
 use Rattle.orders.specs.Scan.{Within, refuse, pastBy, sizedBy, passed, admitted, stepFrom, stepOf, after, scanFrom, scanOf, start}
 use Rattle.orders.proofs.Sizes.{lengthMost, far}
 use Rattle.orders.proofs.Steps.{Sound}
@@ -62,6 +62,7 @@ module _ (order : List ℕ) (long : orderLimit < length order) where
   same-passed t (Row p) h = refl
   same-passed t (Coefficients p) h = refl
   same-passed t (Vector p) h = refl
+  same-passed t (Image p) h = refl
 
   -- a known command
   same-admitted : (at : ℕ) (t : Progress) (c : Command) → operandsOf c < orderLimit → t .at ≤ orderLimit → admitted (take orderLimit order) at t c ≡ admitted order at t c
@@ -81,7 +82,7 @@ module _ (order : List ℕ) (long : orderLimit < length order) where
       let behind = known-at order (s .at) c e .0 in
       let width = width-most c (s .counts .cells) (s .counts .generators) in
       let few = w .few in
-      ap (λ (x : Step). if mayStand v (s .phase) (codeOf c) then x else refuse 3 (s .at)) (same-admitted (s .at) (pastBy s c) c (omega arith) (omega arith))
+      ap (λ (x : Step). if mayStand v (isImageDue (s .counts)) (s .phase) (codeOf c) then x else refuse 3 (s .at)) (same-admitted (s .at) (pastBy s c) c (omega arith) (omega arith))
 
   -- one command of the scan
   same-step : (v : Service) (s : Progress) → Within order s → s .at < lengthMost → stepOf v (take orderLimit order) s ≡ stepOf v order s

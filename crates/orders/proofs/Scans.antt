@@ -6,7 +6,7 @@ use native.Mathlib.Omega.{arith}
 use lib.ListN.{length}
 use Rattle.definitions.specs.Lists.{if_then_else_}
 use Rattle.commands.specs.declared.Command.{Command}
-use Rattle.commands.specs.declared.Command.the-variants.{Size, Generator, Exchange, Row, Coefficients, Vector, End}
+use Rattle.commands.specs.declared.Command.the-variants.{Size, Generator, Exchange, Row, Coefficients, Vector, Image, End}
 use Rattle.commands.specs.declared.Reading.the-variants.{Known, Unknown, Past}
 use Rattle.commands.specs.Commands.{codeOf, commandAt, operandsOf, widthOf}
 use Rattle.orders.specs.declared.Service.{Service}
@@ -16,10 +16,10 @@ use Rattle.orders.specs.declared.Scanned.{Scanned}
 use Rattle.orders.specs.declared.Scanned.the-variants.{Counted, Refused}
 use Rattle.orders.specs.declared.Step.{Step}
 use Rattle.orders.specs.declared.Step.the-variants.{Next, Stop}
-use Rattle.orders.specs.Grammar.{mayStand}
+use Rattle.orders.specs.Grammar.{isImageDue, mayStand}
 use Rattle.orders.specs.Scan.{Few, refuse, pastBy, admitted, stepFrom, stepOf, after, scanFrom, scanOf, start}
 use Rattle.orders.proofs.Sizes.{lengthMost}
-use Rattle.orders.proofs.Steps.{Sound, TurnedDown, Answered, Kept, kept}
+use Rattle.orders.proofs.Steps.{Exact, Sound, TurnedDown, Answered, Kept, kept}
 
 -- ---- the loop
 
@@ -33,8 +33,12 @@ pub record Going (v : Service) (order : List ℕ) (s : Progress) : Type 0 where
 -- nothing is read
 pub sound-start : (order : List ℕ) → Sound order start
 sound-start order = record {
-  within = record { inside = omega arith; few = record { cells-ok = omega arith; generators-ok = omega arith; exchanges-ok = omega arith; rows-ok = omega arith } };
+  within = record {
+    inside = omega arith;
+    few = record { cells-ok = omega arith; generators-ok = omega arith; exchanges-ok = omega arith; images-ok = omega arith; rows-ok = omega arith; bare-ok = λ h. omega arith };
+  };
   reached = refl;
+  imaged = refl;
 }
 
 -- the whole scan is left
@@ -98,7 +102,11 @@ answered v order = answered-from v order (suc (length order)) start (sound-start
 
 -- the counts of an accepted order keep the limits, and it is no longer than the longest
 pub accepted-few : (v : Service) (order : List ℕ) (c : Counts) → scanOf v order ≡ Counted c → Few c × (length order ≤ lengthMost)
-accepted-few v order c e = subst (Answered order) e (answered v order)
+accepted-few v order c e = subst (Answered order) e (answered v order) .0
+
+-- it has all IMAGEs that are due, or none
+pub accepted-exact : (v : Service) (order : List ℕ) (c : Counts) → scanOf v order ≡ Counted c → Exact c
+accepted-exact v order c e = subst (Answered order) e (answered v order) .1
 
 -- a refusal is one of 1 to 6, and its place lies in the order or at its end
 pub turned-down : (v : Service) (order : List ℕ) (number place : ℕ) → scanOf v order ≡ Refused number place → TurnedDown order number place
@@ -118,7 +126,7 @@ module _ (v : Service) (order : List ℕ) (s : Progress) where
   step-unknown e = ap (stepFrom v order s) e
 
   -- a command
-  pub step-known : (c : Command) → commandAt order (s .at) ≡ Known c → stepOf v order s ≡ (if mayStand v (s .phase) (codeOf c) then admitted order (s .at) (pastBy s c) c else refuse 3 (s .at))
+  pub step-known : (c : Command) → commandAt order (s .at) ≡ Known c → stepOf v order s ≡ (if mayStand v (isImageDue (s .counts)) (s .phase) (codeOf c) then admitted order (s .at) (pastBy s c) c else refuse 3 (s .at))
   unfolding stepOf stepFrom
   step-known c e = ap (stepFrom v order s) e
 
@@ -130,6 +138,7 @@ least-width (Exchange p) n m = omega arith
 least-width (Row p) n m = omega arith
 least-width (Coefficients p) n m = omega arith
 least-width (Vector p) n m = omega arith
+least-width (Image p) n m = omega arith
 least-width (End p) n m = omega arith
 
 -- they are skipped

@@ -17,8 +17,8 @@ use Rattle.commands.specs.declared.Command.{Command}
 use Rattle.commands.specs.declared.Reading.{Reading}
 use Rattle.commands.proofs.Reading.{the-type}
 use Rattle.commands.specs.declared.Reading.the-variants.{Known, Unknown, Past}
-use Rattle.commands.specs.declared.Command.the-variants.{Generator, Exchange, Row, Coefficients, Vector}
-use Rattle.commands.specs.Commands.{generatorCode, exchangeCode, rowCode, coefficientsCode, vectorCode, behind, codeOf, commandAt, commandOf, operandsOf, widthOf}
+use Rattle.commands.specs.declared.Command.the-variants.{Generator, Exchange, Row, Coefficients, Vector, Image}
+use Rattle.commands.specs.Commands.{generatorCode, exchangeCode, rowCode, coefficientsCode, vectorCode, imageCode, behind, codeOf, commandAt, commandOf, operandsOf, widthOf}
 use Rattle.commands.specs.Decode.{byteAt, signedAt}
 use Rattle.commands.proofs.Known.{known-at, of-same-code}
 use Rattle.orders.specs.declared.Counts.{Counts}
@@ -89,6 +89,10 @@ module _ (c : Counts) where
   pub holds-exchange : Holds exchangeCode 1 (c .cells) c
   unfolding commandOf
   holds-exchange x e = holds-as 1 (c .cells) exchangeCode x (Exchange (operandsOf x)) e refl (omega arith)
+
+  pub holds-image : Holds imageCode 4 (c .generators) c
+  unfolding commandOf
+  holds-image x e = holds-as 4 (c .generators) imageCode x (Image (operandsOf x)) e refl (omega arith)
 
   pub holds-row : Holds rowCode 2 (c .cells) c
   unfolding commandOf

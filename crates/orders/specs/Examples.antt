@@ -2,7 +2,7 @@
 use mathlib.Core.List.{List, [], _∷_, _++_}
 use Prim.Native.Nat.{ℕ, _+_}
 use lib.ListN.{length, replicate}
-use Rattle.definitions.specs.Limits.{cells, generatorLimit}
+use Rattle.definitions.specs.Limits.{cells, generatorLimit, bareLimit}
 use Rattle.definitions.specs.Lists.{concat}
 use Rattle.orders.specs.declared.Scanned.{Scanned}
 use Rattle.orders.specs.declared.Scanned.the-variants.{Counted, Refused}
@@ -24,6 +24,15 @@ generators count = concat (replicate count (0x02 ∷ 0x01 ∷ 0x00 ∷ []))
 abbrev fullFile : List ℕ
 fullFile = 0x01 ∷ 0x01 ∷ [] ++ generators generatorLimit
 
+-- SIZE, one generator more than a bare order may have, and an exchange
+abbrev crowdedFile : List ℕ
+crowdedFile = 0x01 ∷ 0x01 ∷ [] ++ generators (bareLimit + 1) ++ (0x03 ∷ 0x01 ∷ [])
+
+-- SIZE, a generator, two exchanges and an IMAGE
+abbrev imageFile : List ℕ
+imageFile =
+    0x01 ∷ 0x01 ∷ 0x02 ∷ 0x01 ∷ 0x00 ∷ 0x03 ∷ 0x01 ∷ 0x03 ∷ 0x01 ∷ 0x07 ∷ 0x01 ∷ 0x00 ∷ 0x00 ∷ 0x00 ∷ []
+
 -- for any service
 unfoldable pub forAny : List Example
 forAny =
@@ -32,22 +41,33 @@ forAny =
     ∷ refusal (0x01 ∷ 0x03 ∷ []) 1 2
     ∷ refusal (0x01 ∷ 0x00 ∷ []) 5 0
     ∷ refusal (0x01 ∷ (cells + 1) ∷ []) 5 0
-    ∷ refusal (0x07 ∷ []) 2 0
+    ∷ refusal (0x08 ∷ []) 2 0
+    ∷ refusal (0x07 ∷ []) 3 0
     ∷ refusal (0x01 ∷ 0x01 ∷ 0x01 ∷ []) 3 2
     ∷ refusal (0x01 ∷ 0x01 ∷ 0x02 ∷ 0x05 ∷ []) 1 2
     ∷ refusal (0x01 ∷ 0x01 ∷ 0x03 ∷ 0x01 ∷ 0x02 ∷ 0x01 ∷ 0x00 ∷ 0x00 ∷ []) 3 4
     ∷ refusal (fullFile ++ (0x02 ∷ 0x01 ∷ [])) 6 (length fullFile)
     ∷ refusal (fullFile ++ (0x03 ∷ 0x01 ∷ []) ++ generators 1 ++ (0x00 ∷ [])) 3 (length fullFile + 2)
+    ∷ refusal (0x01 ∷ 0x01 ∷ 0x03 ∷ 0x01 ∷ 0x07 ∷ []) 3 4
+    ∷ refusal (crowdedFile ++ (0x07 ∷ [])) 6 (length crowdedFile)
+    ∷ refusal (imageFile ++ (0x00 ∷ [])) 3 (length imageFile)
+    ∷ refusal (imageFile ++ (0x03 ∷ 0x01 ∷ [])) 3 (length imageFile)
+    ∷ refusal (imageFile ++ (0x07 ∷ 0x01 ∷ [])) 1 (length imageFile)
+    ∷ refusal (imageFile ++ (0x07 ∷ 0x01 ∷ 0x00 ∷ 0x00 ∷ 0x00 ∷ 0x07 ∷ [])) 3 (length imageFile + 5)
     ∷ []
 
--- for List; the last is an order of two cells, a generator and an exchange
+-- for List; the last two are an order of two cells, a generator and an exchange, and a bare order of one cell
 unfoldable pub forList : List Example
 forList =
     refusal (0x06 ∷ []) 3 0
     ∷ refusal (0x01 ∷ 0x01 ∷ 0x00 ∷ 0x07 ∷ []) 4 3
     ∷ record {
       file = 0x01 ∷ 0x02 ∷ 0x02 ∷ 0x01 ∷ 0x00 ∷ 0xFF ∷ 0xFF ∷ 0x03 ∷ 0x02 ∷ 0x01 ∷ 0x00 ∷ [];
-      found = Counted (record { cells = 2; generators = 1; exchanges = 1; rows = 0 });
+      found = Counted (record { cells = 2; generators = 1; exchanges = 1; images = 0; rows = 0 });
+    }
+    ∷ record {
+      file = imageFile ++ (0x07 ∷ 0x01 ∷ 0x00 ∷ 0x00 ∷ 0x00 ∷ 0x00 ∷ []);
+      found = Counted (record { cells = 1; generators = 1; exchanges = 2; images = 2; rows = 0 });
     }
     ∷ []
 
@@ -62,7 +82,10 @@ unfoldable pub forSplit : List Example
 forSplit =
     refusal (0x01 ∷ 0x01 ∷ 0x00 ∷ []) 3 2
     ∷ refusal (0x01 ∷ 0x01 ∷ 0x06 ∷ 0x01 ∷ 0x00 ∷ 0x00 ∷ 0x00 ∷ 0x06 ∷ []) 3 7
-    ∷ record { file = splitFile; found = Counted (record { cells = 2; generators = 1; exchanges = 0; rows = 0 }) }
+    ∷ record {
+      file = splitFile;
+      found = Counted (record { cells = 2; generators = 1; exchanges = 0; images = 0; rows = 0 });
+    }
     ∷ []
 
 -- a Check of the row (1, −1), once the generator, with an exchange of the two cells
@@ -76,5 +99,8 @@ unfoldable pub forCheck : List Example
 forCheck =
     refusal (0x01 ∷ 0x01 ∷ 0x04 ∷ 0x01 ∷ 0x00 ∷ 0x00 ∷ []) 3 5
     ∷ refusal (0x01 ∷ 0x01 ∷ 0x05 ∷ []) 3 2
-    ∷ record { file = checkFile; found = Counted (record { cells = 2; generators = 1; exchanges = 1; rows = 1 }) }
+    ∷ record {
+      file = checkFile;
+      found = Counted (record { cells = 2; generators = 1; exchanges = 1; images = 0; rows = 1 });
+    }
     ∷ []

@@ -9,7 +9,7 @@ use Rattle.theory.proofs.Members.{Each}
 use Rattle.commands.specs.declared.Command.{Command}
 use Rattle.commands.specs.declared.Reading.{Reading}
 use Rattle.commands.specs.declared.Reading.the-variants.{Known, Unknown, Past}
-use Rattle.commands.specs.Commands.{generatorCode, exchangeCode, rowCode, coefficientsCode, vectorCode}
+use Rattle.commands.specs.Commands.{generatorCode, exchangeCode, imageCode, rowCode, coefficientsCode, vectorCode}
 use Rattle.commands.specs.Commands.{behind, codeOf, commandAt, operandsOf, widthOf}
 use Rattle.commands.specs.Decode.{byteAt, signedAt}
 use Rattle.orders.specs.declared.Counts.{Counts}
@@ -86,6 +86,10 @@ generatorsIn order c = gathered generatorCode (signedNumbers 2 (c .cells)) order
 -- the cells of the EXCHANGE commands, a byte each
 unfoldable pub exchangesIn : (order : List ℕ) → Counts → List ℕ
 exchangesIn order c = gathered exchangeCode (byteNumbers (c .cells)) order (commandsIn order c)
+
+-- the numbers of the IMAGE commands, four bytes each
+unfoldable pub imagesIn : (order : List ℕ) → Counts → List ℤ
+imagesIn order c = gathered imageCode (signedNumbers 4 (c .generators)) order (commandsIn order c)
 
 -- the numbers of the ROW commands, two bytes each
 unfoldable pub rowsIn : (order : List ℕ) → Counts → List ℤ

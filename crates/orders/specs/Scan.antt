@@ -1,13 +1,14 @@
 -- Specification 8.3: the scan of an order file. Assumes nothing.
 use mathlib.Core.Bool.{_&&_}
 use mathlib.Core.List.{List}
-use Prim.Native.Nat.{ℕ, zero, suc, _≤_}
+use Prim.Native.Nat.{ℕ, zero, suc, _*_, _≤_}
 use lib.ListN.{length, drop}
 use lib.Dec.{leb, ltb}
-use Rattle.definitions.specs.Limits.{cells, generatorLimit, exchangeLimit, listLimit}
+use Rattle.definitions.specs.Limits.{cells, generatorLimit, exchangeLimit, listLimit, bareLimit}
 use Rattle.definitions.specs.Lists.{if_then_else_}
 use Rattle.commands.specs.declared.Command.{Command}
-use Rattle.commands.specs.declared.Command.the-variants.{Size, Generator, Exchange, Row, Coefficients, Vector, End}
+use Rattle.commands.specs.declared.Command.the-variants.{Size, Generator, Exchange, Row, Coefficients}
+use Rattle.commands.specs.declared.Command.the-variants.{Vector, Image, End}
 use Rattle.commands.specs.declared.Reading.{Reading}
 use Rattle.commands.specs.declared.Reading.the-variants.{Known, Unknown, Past}
 use Rattle.commands.specs.Commands.{behind, codeOf, commandAt}
@@ -20,14 +21,16 @@ use Rattle.orders.specs.declared.Scanned.{Scanned}
 use Rattle.orders.specs.declared.Scanned.the-variants.{Counted, Refused}
 use Rattle.orders.specs.declared.Step.{Step}
 use Rattle.orders.specs.declared.Step.the-variants.{Next, Stop}
-use Rattle.orders.specs.Grammar.{countedBy, mayStand, phaseAfter, tooMany}
+use Rattle.orders.specs.Grammar.{countedBy, isImageDue, mayStand, phaseAfter, tooMany}
 
 -- counts that keep the limits
 pub record Few (c : Counts) : Type 0 where
   pub cells-ok : c .cells ≤ cells
   pub generators-ok : c .generators ≤ generatorLimit
   pub exchanges-ok : c .exchanges ≤ exchangeLimit
+  pub images-ok : c .images ≤ c .exchanges * c .generators
   pub rows-ok : c .rows ≤ listLimit
+  pub bare-ok : 1 ≤ c .images → c .generators ≤ bareLimit
 
 -- a scan that goes on is inside the order and within the limits
 pub record Within (order : List ℕ) (s : Progress) : Type 0 where
@@ -50,8 +53,17 @@ pastBy s command = record {
 abbrev pub sizedBy : Progress → (n : ℕ) → Progress
 sizedBy t n =
     let c = t .counts in
-    let sized : Counts = record { cells = n; generators = c .generators; exchanges = c .exchanges; rows = c .rows } in
-    record { at = t .at; phase = t .phase; counts = sized }
+    record {
+      at = t .at;
+      phase = t .phase;
+      counts = record {
+        cells = n;
+        generators = c .generators;
+        exchanges = c .exchanges;
+        images = c .images;
+        rows = c .rows;
+      };
+    }
 
 -- 8.3, 6 to 8: a whole command that may stand, t being the progress past it
 unfoldable pub passed : (order : List ℕ) → Progress → Command → Step
@@ -63,6 +75,7 @@ passed order t (Exchange p) = Next t
 passed order t (Row p) = Next t
 passed order t (Coefficients p) = Next t
 passed order t (Vector p) = Next t
+passed order t (Image p) = Next t
 
 -- 8.3, 4 to 8: a command at an offset that may stand, t being the progress past it
 unfoldable pub admitted : (order : List ℕ) (at : ℕ) → Progress → Command → Step
@@ -76,7 +89,8 @@ unfoldable pub stepFrom : Service → (order : List ℕ) → Progress → Readin
 stepFrom service order s Past = refuse 1 (length order)
 stepFrom service order s Unknown = refuse 2 (s .at)
 stepFrom service order s (Known command) =
-    if mayStand service (s .phase) (codeOf command) then admitted order (s .at) (pastBy s command) command
+    if mayStand service (isImageDue (s .counts)) (s .phase) (codeOf command)
+    then admitted order (s .at) (pastBy s command) command
     else refuse 3 (s .at)
 
 -- 8.3: one command of the scan
@@ -96,7 +110,7 @@ scanFrom (suc fuel) service order s = after (stepOf service order s) (scanFrom f
 -- a command is due at offset 0, and nothing was counted
 abbrev pub start : Progress
 start =
-    let none : Counts = record { cells = 0; generators = 0; exchanges = 0; rows = 0 } in
+    let none : Counts = record { cells = 0; generators = 0; exchanges = 0; images = 0; rows = 0 } in
     record { at = 0; phase = Empty; counts = none }
 
 -- 8.3: the scan of an order; each command takes a byte, so that the fuel suffices

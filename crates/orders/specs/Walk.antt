@@ -9,7 +9,7 @@ use lib.Seq.{paste}
 use denote.Ref.{now}
 use Rattle.vectors.specs.Areas.{Lent}
 use Rattle.commands.specs.declared.Command.{Command}
-use Rattle.commands.specs.Commands.{coefficientsCode, exchangeCode, codeOf, operandsOf, widthOf}
+use Rattle.commands.specs.Commands.{exchangeCode, codeOf, operandsOf, widthOf}
 use Rattle.orders.specs.declared.Counts.{Counts}
 use Rattle.orders.specs.declared.operands.Kind.{Kind}
 use Rattle.orders.specs.Operands.{commandsIn, signedNumbers, byteNumbers, commandNumbers, gathered}
@@ -32,10 +32,6 @@ kindGathered kind order c = gathered (kind .code) (signedIn kind) order (command
 -- the cells of an EXCHANGE
 abbrev pub cellNumbers : (count : ℕ) (order : List ℕ) → Command → List ℕ
 cellNumbers count order command = commandNumbers exchangeCode (byteNumbers count) order command
-
--- the numbers of COEFFICIENTS
-abbrev pub wideNumbers : (count : ℕ) (order : List ℕ) → Command → List ℤ
-wideNumbers count order command = commandNumbers coefficientsCode (signedNumbers 4 count) order command
 
 -- the operands of a command with the byte `code` have room for the numbers
 abbrev pub Holds : (code bytes count : ℕ) → Counts → Type 0

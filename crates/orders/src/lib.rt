@@ -3,13 +3,14 @@ ghost use mathlib.Core.Path.{_≡_};
 ghost use Prim.Native.Nat.{_+_, _≤_, _<_};
 ghost use lib.ListN.{length};
 ghost use Rattle.commands.specs.Commands.{operandsOf, widthOf};
-ghost use Rattle.orders.specs.Grammar.{countedBy, mayClose, mayStand, oneIf, phaseAfter, tooMany};
+ghost use Rattle.orders.specs.Grammar.{countedBy, isImageDue, mayClose, mayStand, oneIf, phaseAfter, tooMany};
 ghost use Rattle.orders.specs.Scan.{Few, Within, refuse, pastBy, sizedBy, passed, admitted, stepOf, scanOf};
 use commands::COEFFICIENTS;
 use commands::Command;
 use commands::END;
 use commands::EXCHANGE;
 use commands::GENERATOR;
+use commands::IMAGE;
 use commands::ROW;
 use commands::Reading;
 use commands::SIZE;
@@ -18,6 +19,7 @@ use commands::behind;
 use commands::byte_at;
 use commands::code_of;
 use commands::command_at;
+use definitions::limits::BARE_LIMIT;
 use definitions::limits::CELLS;
 use definitions::limits::EXCHANGE_LIMIT;
 use definitions::limits::GENERATOR_LIMIT;
@@ -33,11 +35,12 @@ pub enum Service {
     Check,
 }
 
-// What was read last: nothing, SIZE or GENERATOR, EXCHANGE, VECTOR, ROW, COEFFICIENTS or END.
+// What was read last: nothing, SIZE or GENERATOR, EXCHANGE, IMAGE, VECTOR, ROW, COEFFICIENTS or END.
 enum Phase {
     Empty,
     Generators,
     Exchanges,
+    Images,
     Vectors,
     Rows,
     Paired,
@@ -49,6 +52,7 @@ pub struct Counts {
     pub cells: usize,
     pub generators: usize,
     pub exchanges: usize,
+    pub images: usize,
     pub rows: usize,
 }
 
@@ -79,6 +83,7 @@ fn phase_after(command: Command) -> Phase
         Command::Size(_) => Phase::Generators,
         Command::Generator(_) => Phase::Generators,
         Command::Exchange(_) => Phase::Exchanges,
+        Command::Image(_) => Phase::Images,
         Command::Vector(_) => Phase::Vectors,
         Command::Row(_) => Phase::Rows,
         Command::Coefficients(_) => Phase::Paired,
@@ -86,7 +91,7 @@ fn phase_after(command: Command) -> Phase
     }
 }
 
-// Whether a command may follow generators and exchanges (Specification 8.2).
+// Whether a command may follow generators, exchanges and images (Specification 8.2).
 fn may_close(service: Service, code: usize) -> bool
     ensures rule { λ r. ⌜ r ≡ mayClose service code ⌝ }
 {
@@ -97,15 +102,34 @@ fn may_close(service: Service, code: usize) -> bool
     }
 }
 
-// Whether a command may follow what was read last (Specification 8.2).
-fn may_stand(service: Service, phase: Phase, code: usize) -> bool
-    ensures rule { λ r. ⌜ r ≡ mayStand service phase code ⌝ }
+// Whether an IMAGE may follow: not all that are due have come (Specification 8.2).
+fn is_image_due(c: Counts) -> bool
+    requires few { ⌜ Few c ⌝ }
+    ensures due { λ r. ⌜ r ≡ isImageDue c ⌝ }
+{
+    c.images < c.exchanges * c.generators
+}
+
+// Whether a command may follow images; `due` says whether another is due (Specification 8.2).
+fn may_follow_images(service: Service, due: bool, code: usize) -> bool
+    ensures rule { λ r. ⌜ r ≡ mayStand service due Phase.Images code ⌝ }
+{
+    if due {
+        return code == IMAGE;
+    }
+    may_close(service, code)
+}
+
+// Whether a command may follow what was read last; `due` says whether an IMAGE may (Specification 8.2).
+fn may_stand(service: Service, due: bool, phase: Phase, code: usize) -> bool
+    ensures rule { λ r. ⌜ r ≡ mayStand service due phase code ⌝ }
 {
     let closes = may_close(service, code);
     match phase {
         Phase::Empty => code == SIZE,
         Phase::Generators => (code == GENERATOR) | ((code == EXCHANGE) | closes),
-        Phase::Exchanges => (code == EXCHANGE) | closes,
+        Phase::Exchanges => (due & (code == IMAGE)) | ((code == EXCHANGE) | closes),
+        Phase::Images => may_follow_images(service, due, code),
         Phase::Vectors => code == END,
         Phase::Rows => code == COEFFICIENTS,
         Phase::Paired => (code == ROW) | (code == END),
@@ -130,11 +154,13 @@ fn counted(c: Counts, command: Command) -> Counts
 {
     let generators = c.generators + one_if(command, GENERATOR);
     let exchanges = c.exchanges + one_if(command, EXCHANGE);
+    let images = c.images + one_if(command, IMAGE);
     let rows = c.rows + one_if(command, ROW);
     Counts {
         cells: c.cells,
         generators,
         exchanges,
+        images,
         rows,
     }
 }
@@ -151,11 +177,14 @@ fn past(order: &[u8], s: Progress, command: Command) -> Progress
     Progress { at, phase, counts }
 }
 
-// Whether there are more generators, exchanges or rows than may be.
+// Whether there are more generators, exchanges or rows than may be, or more generators than a bare order may have.
 fn too_many(c: Counts) -> bool
     ensures many { λ r. ⌜ r ≡ tooMany c ⌝ }
 {
-    (GENERATOR_LIMIT < c.generators) | (EXCHANGE_LIMIT < c.exchanges) | (LIST_LIMIT < c.rows)
+    (GENERATOR_LIMIT < c.generators)
+        | (EXCHANGE_LIMIT < c.exchanges)
+        | (LIST_LIMIT < c.rows)
+        | ((0 < c.images) & (BARE_LIMIT < c.generators))
 }
 
 // The scan is over, with a refusal.
@@ -178,6 +207,7 @@ fn sized(t: Progress, n: usize) -> Progress
         cells: n,
         generators: c.generators,
         exchanges: c.exchanges,
+        images: c.images,
         rows: c.rows,
     };
     Progress {
@@ -224,6 +254,7 @@ fn pass(order: &[u8], t: Progress, command: Command) -> Step
         Command::Row(_) => Step::Next(t),
         Command::Coefficients(_) => Step::Next(t),
         Command::Vector(_) => Step::Next(t),
+        Command::Image(_) => Step::Next(t),
     }
 }
 
@@ -255,7 +286,8 @@ fn next_step(order: &[u8], service: Service, s: Progress) -> Step
         Reading::Past => refused(1, order.len()),
         Reading::Unknown => refused(2, at),
         Reading::Known(command) => {
-            if !may_stand(service, phase, code_of(command)) {
+            let due = is_image_due(s.counts);
+            if !may_stand(service, due, phase, code_of(command)) {
                 return refused(3, at);
             }
             let t = past(order, s, command);
@@ -272,6 +304,7 @@ pub fn scan(order: &[u8], service: Service) -> Scanned
         cells: 0,
         generators: 0,
         exchanges: 0,
+        images: 0,
         rows: 0,
     };
     let mut s = Progress {

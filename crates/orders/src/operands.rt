@@ -3,17 +3,18 @@
 ghost use mathlib.Core.Path.{_≡_};
 ghost use Prim.Native.Nat.{_+_, _≤_};
 ghost use lib.ListN.{length};
-ghost use Rattle.commands.specs.Commands.{coefficientsCode, exchangeCode};
+ghost use Rattle.commands.specs.Commands.{exchangeCode};
 ghost use Rattle.commands.specs.Decode.{signedAt};
 ghost use Rattle.orders.specs.Operands.{Readable};
-ghost use Rattle.orders.specs.Operands.{generatorsIn, exchangesIn, rowsIn, coefficientsIn, vectorIn};
+ghost use Rattle.orders.specs.Operands.{generatorsIn, exchangesIn, imagesIn, rowsIn, coefficientsIn, vectorIn};
 ghost use Rattle.orders.specs.Walk.{Filled, Holds, Inside, SignedSize, TakenIn};
-ghost use Rattle.orders.specs.Walk.{cellNumbers, kindGathered, kindNumbers, wideNumbers};
+ghost use Rattle.orders.specs.Walk.{cellNumbers, kindGathered, kindNumbers};
 use crate::Counts;
 use commands::COEFFICIENTS;
 use commands::Command;
 use commands::EXCHANGE;
 use commands::GENERATOR;
+use commands::IMAGE;
 use commands::ROW;
 use commands::Reading;
 use commands::VECTOR;
@@ -88,23 +89,24 @@ fn take_bytes(order: &[u8], command: Command, count: usize, filled: usize, area:
     filled + count
 }
 
-// The numbers of COEFFICIENTS, likewise, into an area of wide numbers.
-fn take_wide(order: &[u8], command: Command, count: usize, filled: usize, area: &mut [i64]) -> usize
-    requires inside { ⌜ Inside (now order) coefficientsCode 4 count command ⌝ }
-    requires room { ⌜ filled + length (wideNumbers count (now order) command) ≤ length (now area) ⌝ }
-    ensures taken { λ r. ⌜ TakenIn (wideNumbers count (now (order .entry)) command) filled area r ⌝ }
+// The numbers of a command of a kind, likewise, into an area of wide numbers.
+fn take_wide(order: &[u8], command: Command, kind: Kind, filled: usize, area: &mut [i64]) -> usize
+    requires size { ⌜ SignedSize (kind .size) ⌝ }
+    requires inside { ⌜ Inside (now order) (kind .code) (kind .size) (kind .count) command ⌝ }
+    requires room { ⌜ filled + length (kindNumbers kind (now order) command) ≤ length (now area) ⌝ }
+    ensures taken { λ r. ⌜ TakenIn (kindNumbers kind (now (order .entry)) command) filled area r ⌝ }
 {
-    if code_of(command) != COEFFICIENTS {
+    if code_of(command) != kind.code {
         return filled;
     }
     let from = operands_of(command);
     let part = &order[from..];
     let mut j = 0;
-    while j < count {
-        area[filled + j] = word_at(part, 4 * j) as i64;
+    while j < kind.count {
+        area[filled + j] = signed_at(part, kind.size * j, kind.size) as i64;
         j += 1;
     }
-    filled + count
+    filled + kind.count
 }
 
 // The numbers of all commands of a kind, into an area.
@@ -144,11 +146,12 @@ pub fn read_exchanges(order: &[u8], c: Counts, area: &mut [u8])
     }
 }
 
-// The coefficients of the rows, into an area.
-pub fn read_coefficients(order: &[u8], c: Counts, area: &mut [i64])
+// The numbers of all commands of a kind, into an area of wide numbers.
+fn read_wide(order: &[u8], c: Counts, kind: Kind, area: &mut [i64])
     requires readable { ⌜ Readable (now order) c ⌝ }
-    requires room { ⌜ length (coefficientsIn (now order) c) ≤ length (now area) ⌝ }
-    ensures read { λ _. ⌜ Filled (coefficientsIn (now (order .entry)) c) area ⌝ }
+    requires kind { ⌜ SignedSize (kind .size) × Holds (kind .code) (kind .size) (kind .count) c ⌝ }
+    requires room { ⌜ length (kindGathered kind (now order) c) ≤ length (now area) ⌝ }
+    ensures read { λ _. ⌜ Filled (kindGathered kind (now (order .entry)) c) area ⌝ }
 {
     let mut at = 0;
     let mut filled = 0;
@@ -157,9 +160,37 @@ pub fn read_coefficients(order: &[u8], c: Counts, area: &mut [i64])
         let Reading::Known(command) = reading else {
             return;
         };
-        filled = take_wide(order, command, c.generators, filled, &mut *area);
+        filled = take_wide(order, command, kind, filled, &mut *area);
         at = behind(order, command, c.cells, c.generators);
     }
+}
+
+// The coefficients of the images, into an area.
+pub fn read_images(order: &[u8], c: Counts, area: &mut [i64])
+    requires readable { ⌜ Readable (now order) c ⌝ }
+    requires room { ⌜ length (imagesIn (now order) c) ≤ length (now area) ⌝ }
+    ensures read { λ _. ⌜ Filled (imagesIn (now (order .entry)) c) area ⌝ }
+{
+    let kind = Kind {
+        code: IMAGE,
+        size: 4,
+        count: c.generators,
+    };
+    read_wide(order, c, kind, area);
+}
+
+// The coefficients of the rows, into an area.
+pub fn read_coefficients(order: &[u8], c: Counts, area: &mut [i64])
+    requires readable { ⌜ Readable (now order) c ⌝ }
+    requires room { ⌜ length (coefficientsIn (now order) c) ≤ length (now area) ⌝ }
+    ensures read { λ _. ⌜ Filled (coefficientsIn (now (order .entry)) c) area ⌝ }
+{
+    let kind = Kind {
+        code: COEFFICIENTS,
+        size: 4,
+        count: c.generators,
+    };
+    read_wide(order, c, kind, area);
 }
 
 // The numbers of the generators, into an area.

@@ -1,6 +1,7 @@
 -- What the services promise of order files: laws of their answers, for C calls and programs.
 pub mod Prefix
 pub mod Orders
+pub mod Fits
 pub mod Cases
 pub mod Meaning
 pub mod Ends

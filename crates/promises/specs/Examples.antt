@@ -49,3 +49,21 @@ p8File =
 unfoldable pub p8Text : List ℕ
 p8Text =
     82 ∷ 69 ∷ 70 ∷ 85 ∷ 83 ∷ 69 ∷ 68 ∷ 32 ∷ 49 ∷ 53 ∷ 32 ∷ 48 ∷ 10 ∷ []
+
+-- P17: SIZE, two GENERATORs, an EXCHANGE, two IMAGEs, END
+unfoldable pub p17File : List ℕ
+p17File =
+    0x01 ∷ 0x03 ∷
+    0x02 ∷ 0x01 ∷ 0x00 ∷ 0xFF ∷ 0xFF ∷ 0x00 ∷ 0x00 ∷
+    0x02 ∷ 0x00 ∷ 0x00 ∷ 0x01 ∷ 0x00 ∷ 0xFF ∷ 0xFF ∷
+    0x03 ∷ 0x02 ∷ 0x03 ∷ 0x01 ∷
+    0x07 ∷ 0xFF ∷ 0xFF ∷ 0xFF ∷ 0xFF ∷ 0xFF ∷ 0xFF ∷ 0xFF ∷ 0xFF ∷
+    0x07 ∷ 0x01 ∷ 0x00 ∷ 0x00 ∷ 0x00 ∷ 0x00 ∷ 0x00 ∷ 0x00 ∷ 0x00 ∷
+    0x00 ∷ []
+
+-- MOVES 1 3 1 6, the row (1,0,−1), END
+unfoldable pub p17Text : List ℕ
+p17Text =
+    77 ∷ 79 ∷ 86 ∷ 69 ∷ 83 ∷ 32 ∷ 49 ∷ 32 ∷ 51 ∷ 32 ∷ 49 ∷ 32 ∷ 54 ∷ 10 ∷
+    49 ∷ 32 ∷ 48 ∷ 32 ∷ 45 ∷ 49 ∷ 10 ∷
+    69 ∷ 78 ∷ 68 ∷ 10 ∷ []

@@ -18,7 +18,7 @@ use Rattle.orders.specs.declared.Counts.{Counts}
 use Rattle.orders.specs.declared.Scanned.{Scanned}
 use Rattle.orders.specs.declared.Scanned.the-variants.{Counted as Accepted, Refused as RefusedFile}
 use Rattle.orders.specs.Scan.{scanOf}
-use Rattle.orders.specs.Operands.{generatorsIn, exchangesIn, rowsIn, coefficientsIn, vectorIn}
+use Rattle.orders.specs.Operands.{generatorsIn, exchangesIn, imagesIn, rowsIn, coefficientsIn, vectorIn}
 use Rattle.answers.specs.Answers.{answerText, lineCount}
 use Rattle.answers.specs.Refusal.{refusalOf}
 
@@ -26,7 +26,7 @@ use Rattle.answers.specs.Refusal.{refusalOf}
 
 -- 8.3: what an accepted file lends to each call
 abbrev pub orderIn : (file : List ℕ) → Counts → Order
-orderIn file c = orderOf (c .cells) (generatorsIn file c) (exchangesIn file c)
+orderIn file c = orderOf (c .cells) (generatorsIn file c) (exchangesIn file c) (imagesIn file c)
 
 -- 1.2: the sizes of the areas that programs and C calls lend
 abbrev pub listSize : Counts → ℕ

@@ -8,8 +8,8 @@ use lib.ListN.{length, getD}
 use Rattle.definitions.specs.declared.Fault.{Fault}
 use Rattle.definitions.specs.Limits.{listLimit}
 use Rattle.definitions.specs.Vector.{isZero}
-use Rattle.definitions.specs.Lent.{wholeRowsUpTo, rowsOf, vectorsOf}
-use Rattle.definitions.specs.Refusals.{faultWhere, isPast, leavesGenerators}
+use Rattle.definitions.specs.Lent.{wholeRowsUpTo, vectorsOf}
+use Rattle.definitions.specs.Refusals.{faultWhere, isPast}
 
 -- what else a Check lends fits: so many numbers of generators, of brought rows and of coefficients
 abbrev pub broughtSizesFit : (n generators rows coefficients : ℕ) → Bool
@@ -25,9 +25,3 @@ abbrev pub zeroFault : (n : ℕ) (generators : List ℤ) → Fault
 zeroFault n generators =
     let rows = vectorsOf n generators in
     faultWhere 8 (length rows) (λ p. isZero (getD rows p []))
-
--- 11: the first generator that some sent exchange takes to no generator nor a negative of one
-abbrev pub leavingFault : (n : ℕ) (generators : List ℤ) (exchanges : List ℕ) → Fault
-leavingFault n generators exchanges =
-    let rows = vectorsOf n generators in
-    faultWhere 11 (length rows) (λ p. leavesGenerators rows (rowsOf n exchanges) (getD rows p []))

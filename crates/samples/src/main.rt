@@ -28,7 +28,7 @@ const PIECES_AREA: usize = LENT_PIECES * PIECE_WIDTH;
 // The generators of P2 and P7.
 const GENERATORS_2: [i32; 2] = [2, 3];
 
-// The generators of P3 and P12.
+// The generators of P3, P12 and P17 to P22.
 const GENERATORS_3: [i32; 6] = [1, -1, 0, 0, 1, -1];
 
 // The generators of P4 and P5.
@@ -39,6 +39,15 @@ const GENERATORS_15: [i32; 4] = [2, -2, 3, 0];
 
 // The exchange of P4 and P5.
 const EXCHANGE_4: [u8; 3] = [3, 2, 1];
+
+// The exchange of P17 to P20 and P22.
+const EXCHANGE_17: [u8; 3] = [2, 3, 1];
+
+// An order with no images is not bare.
+const NO_IMAGES: [i64; 0] = [];
+
+// The images of P17, P18 and P19.
+const IMAGES_17: [i64; 4] = [-1, -1, 1, 0];
 
 // ---- calls
 
@@ -88,17 +97,18 @@ fn list_in(
     n: usize,
     generators: &[i32],
     exchanges: &[u8],
+    images: &[i64],
     list: &mut [i32],
     group: &mut [u8],
 )
     requires some { ⌜ 1 ≤ n ⌝ }
 {
-    let answer = moves::list(n, generators, exchanges, &mut *list, &mut *group);
+    let answer = moves::list(n, generators, exchanges, images, &mut *list, &mut *group);
     show(name, answer, &*list, n);
 }
 
 // A List on the areas that programs lend.
-fn list(name: &[u8], n: usize, generators: &[i32], exchanges: &[u8])
+fn list(name: &[u8], n: usize, generators: &[i32], exchanges: &[u8], images: &[i64])
     requires sized { ⌜ (1 ≤ n) × (n ≤ cells) ⌝ }
 {
     let mut list = [0i32; LIST_AREA];
@@ -110,13 +120,21 @@ fn list(name: &[u8], n: usize, generators: &[i32], exchanges: &[u8])
         n,
         generators,
         exchanges,
+        images,
         &mut list[..rows],
         &mut group[..table],
     );
 }
 
-// A Split without exchanges, on the areas that programs lend.
-fn split(name: &[u8], n: usize, generators: &[i32], vector: &[i32])
+// A Split on the areas that programs lend.
+fn split(
+    name: &[u8],
+    n: usize,
+    generators: &[i32],
+    exchanges: &[u8],
+    images: &[i64],
+    vector: &[i32],
+)
     requires sized { ⌜ n ≤ cells ⌝ }
 {
     let mut list = [0i32; LIST_AREA];
@@ -127,7 +145,8 @@ fn split(name: &[u8], n: usize, generators: &[i32], vector: &[i32])
     let answer = moves::split(
         n,
         generators,
-        b"",
+        exchanges,
+        images,
         vector,
         &mut list[..rows],
         &mut group[..table],
@@ -136,13 +155,29 @@ fn split(name: &[u8], n: usize, generators: &[i32], vector: &[i32])
     show(name, answer, &pieces, PIECE_WIDTH);
 }
 
-// A Check without exchanges, on the area that programs lend. The answer has no lines of numbers.
-fn check(name: &[u8], n: usize, generators: &[i32], rows: &[i32], coefficients: &[i64])
+// A Check on the area that programs lend. The answer has no lines of numbers.
+fn check(
+    name: &[u8],
+    n: usize,
+    generators: &[i32],
+    exchanges: &[u8],
+    images: &[i64],
+    rows: &[i32],
+    coefficients: &[i64],
+)
     requires sized { ⌜ n ≤ cells ⌝ }
 {
     let mut group = [0u8; GROUP_AREA];
     let table = GROUP_LIMIT * n;
-    let answer = moves::check(n, generators, b"", rows, coefficients, &mut group[..table]);
+    let answer = moves::check(
+        n,
+        generators,
+        exchanges,
+        images,
+        rows,
+        coefficients,
+        &mut group[..table],
+    );
     show(name, answer, rows, 1);
 }
 
@@ -151,22 +186,22 @@ fn check(name: &[u8], n: usize, generators: &[i32], rows: &[i32], coefficients: 
 // P1: no generators.
 fn p1() {
     let generators = [0i32; 0];
-    list(b"P1\n", 1, &generators, b"");
+    list(b"P1\n", 1, &generators, b"", &NO_IMAGES);
 }
 
 // P2: (2) and (3).
 fn p2() {
-    list(b"P2\n", 1, &GENERATORS_2, b"");
+    list(b"P2\n", 1, &GENERATORS_2, b"", &NO_IMAGES);
 }
 
 // P3: the differences of neighbouring cells.
 fn p3() {
-    list(b"P3\n", 3, &GENERATORS_3, b"");
+    list(b"P3\n", 3, &GENERATORS_3, b"", &NO_IMAGES);
 }
 
 // P4: the order of the sample file.
 fn p4() {
-    list(b"P4\n", 3, &GENERATORS_4, &EXCHANGE_4);
+    list(b"P4\n", 3, &GENERATORS_4, &EXCHANGE_4, &NO_IMAGES);
 }
 
 // P5: P4 with two list rows lent.
@@ -179,6 +214,7 @@ fn p5() {
         3,
         &GENERATORS_4,
         &EXCHANGE_4,
+        &NO_IMAGES,
         &mut list,
         &mut group[..table],
     );
@@ -188,27 +224,27 @@ fn p5() {
 fn p6() {
     let most = ENTRY_LIMIT as i32;
     let generators = [most, 1, 1, most];
-    list(b"P6\n", 2, &generators, b"");
+    list(b"P6\n", 2, &generators, b"", &NO_IMAGES);
 }
 
 // P7: (5) by (2) and (3).
 fn p7() {
     let vector = [5i32];
-    split(b"P7\n", 1, &GENERATORS_2, &vector);
+    split(b"P7\n", 1, &GENERATORS_2, b"", &NO_IMAGES, &vector);
 }
 
 // P8: (1) is no multiple of (2).
 fn p8() {
     let generators = [2i32];
     let vector = [1i32];
-    split(b"P8\n", 1, &generators, &vector);
+    split(b"P8\n", 1, &generators, b"", &NO_IMAGES, &vector);
 }
 
 // P9: an exchange that does not keep the generators.
 fn p9() {
     let generators = [1i32, 0];
     let exchanges = [2u8, 1];
-    list(b"P9\n", 2, &generators, &exchanges);
+    list(b"P9\n", 2, &generators, &exchanges, &NO_IMAGES);
 }
 
 // P10: a row that is twice another.
@@ -216,7 +252,15 @@ fn p10() {
     let generators = [1i32];
     let rows = [1i32, 2];
     let coefficients = [1i64, 2];
-    check(b"P10\n", 1, &generators, &rows, &coefficients);
+    check(
+        b"P10\n",
+        1,
+        &generators,
+        b"",
+        &NO_IMAGES,
+        &rows,
+        &coefficients,
+    );
 }
 
 // P11: no rows.
@@ -224,13 +268,29 @@ fn p11() {
     let generators = [1i32];
     let rows = [0i32; 0];
     let coefficients = [0i64; 0];
-    check(b"P11\n", 1, &generators, &rows, &coefficients);
+    check(
+        b"P11\n",
+        1,
+        &generators,
+        b"",
+        &NO_IMAGES,
+        &rows,
+        &coefficients,
+    );
 }
 
 // P12: a list that is one row short.
 fn p12() {
     let coefficients = [1i64, 0, 0, 1];
-    check(b"P12\n", 3, &GENERATORS_3, &GENERATORS_3, &coefficients);
+    check(
+        b"P12\n",
+        3,
+        &GENERATORS_3,
+        b"",
+        &NO_IMAGES,
+        &GENERATORS_3,
+        &coefficients,
+    );
 }
 
 // Writes generator k of the 3 by 3 table: the move of the rows a and c and the columns b and d (Specification 10).
@@ -266,25 +326,162 @@ fn s13() {
         9,
         &generators,
         b"\x04\x05\x06\x01\x02\x03\x07\x08\x09\x01\x02\x03\x07\x08\x09\x04\x05\x06\x01\x04\x07\x02\x05\x08\x03\x06\x09",
+        &NO_IMAGES,
     );
 }
 
 // 14: the moves of the 3 by 3 table without exchanges.
 fn s14() {
     let generators = nine_moves();
-    list(b"14\n", 9, &generators, b"");
+    list(b"14\n", 9, &generators, b"", &NO_IMAGES);
 }
 
 // P15: a row of lesser degree and greater weight than two others.
 fn p15() {
-    list(b"P15\n", 2, &GENERATORS_15, b"");
+    list(b"P15\n", 2, &GENERATORS_15, b"", &NO_IMAGES);
 }
 
 // P16: P15's list, sorted by weight.
 fn p16() {
     let rows = [3i32, 0, 1, 2, 2, -2, 1, -4, 0, 6];
     let coefficients = [0i64, 1, -1, 1, 1, 0, 2, -1, -3, 2];
-    check(b"P16\n", 2, &GENERATORS_15, &rows, &coefficients);
+    check(
+        b"P16\n",
+        2,
+        &GENERATORS_15,
+        b"",
+        &NO_IMAGES,
+        &rows,
+        &coefficients,
+    );
+}
+
+// P17: a basis whose generators a 3-cycle does not keep, bare.
+fn p17() {
+    list(b"P17\n", 3, &GENERATORS_3, &EXCHANGE_17, &IMAGES_17);
+}
+
+// P18: (2,−1,−1) by P17.
+fn p18() {
+    let vector = [2i32, -1, -1];
+    split(
+        b"P18\n",
+        3,
+        &GENERATORS_3,
+        &EXCHANGE_17,
+        &IMAGES_17,
+        &vector,
+    );
+}
+
+// P19: P17's list.
+fn p19() {
+    let rows = [1i32, 0, -1];
+    let coefficients = [1i64, 1];
+    check(
+        b"P19\n",
+        3,
+        &GENERATORS_3,
+        &EXCHANGE_17,
+        &IMAGES_17,
+        &rows,
+        &coefficients,
+    );
+}
+
+// P20: P17 with the images by the inverse exchange.
+fn p20() {
+    let images = [0i64, 1, -1, -1];
+    list(b"P20\n", 3, &GENERATORS_3, &EXCHANGE_17, &images);
+}
+
+// P21: P17 with the inverse as a second exchange, and the last image wrong.
+fn p21() {
+    let exchanges = [2u8, 3, 1, 3, 1, 2];
+    let images = [-1i64, -1, 1, 0, 0, 1, -1, 0];
+    list(b"P21\n", 3, &GENERATORS_3, &exchanges, &images);
+}
+
+// P22: P17 with one coefficient too few.
+fn p22() {
+    let images = [-1i64, -1, 1];
+    list(b"P22\n", 3, &GENERATORS_3, &EXCHANGE_17, &images);
+}
+
+// Writes generator k of 23: the move of the rows a and a + 1 and the columns b and b + 1.
+fn put_neighbours(generators: &mut [i32; 36], k: usize, a: usize, b: usize)
+    requires within { ⌜ (k < 4) × (a < 2) × (b < 2) ⌝ }
+{
+    let at = 9 * k + 3 * a + b;
+    generators[at] = 1;
+    generators[at + 1] = -1;
+    generators[at + 3] = -1;
+    generators[at + 4] = 1;
+}
+
+// The four moves of neighbouring rows and columns of the 3 by 3 table.
+fn four_moves() -> [i32; 36] {
+    let mut generators = [0i32; 36];
+    put_neighbours(&mut generators, 0, 0, 0);
+    put_neighbours(&mut generators, 1, 0, 1);
+    put_neighbours(&mut generators, 2, 1, 0);
+    put_neighbours(&mut generators, 3, 1, 1);
+    generators
+}
+
+// Writes image p of 23: its coefficients.
+fn put_image(images: &mut [i64; 80], p: usize, a: i64, b: i64, c: i64, d: i64)
+    requires within { ⌜ p < 20 ⌝ }
+{
+    images[4 * p] = a;
+    images[4 * p + 1] = b;
+    images[4 * p + 2] = c;
+    images[4 * p + 3] = d;
+}
+
+// The images of 23: a swap negates the moves of its two rows or columns, and the moves beside them get these added; the
+// transposition trades two moves.
+fn images_23() -> [i64; 80] {
+    let mut images = [0i64; 80];
+    put_image(&mut images, 0, -1, 0, 0, 0);
+    put_image(&mut images, 1, 0, -1, 0, 0);
+    put_image(&mut images, 2, 1, 0, 1, 0);
+    put_image(&mut images, 3, 0, 1, 0, 1);
+    put_image(&mut images, 4, 1, 0, 1, 0);
+    put_image(&mut images, 5, 0, 1, 0, 1);
+    put_image(&mut images, 6, 0, 0, -1, 0);
+    put_image(&mut images, 7, 0, 0, 0, -1);
+    put_image(&mut images, 8, -1, 0, 0, 0);
+    put_image(&mut images, 9, 1, 1, 0, 0);
+    put_image(&mut images, 10, 0, 0, -1, 0);
+    put_image(&mut images, 11, 0, 0, 1, 1);
+    put_image(&mut images, 12, 1, 1, 0, 0);
+    put_image(&mut images, 13, 0, -1, 0, 0);
+    put_image(&mut images, 14, 0, 0, 1, 1);
+    put_image(&mut images, 15, 0, 0, 0, -1);
+    put_image(&mut images, 16, 1, 0, 0, 0);
+    put_image(&mut images, 17, 0, 0, 1, 0);
+    put_image(&mut images, 18, 0, 1, 0, 0);
+    put_image(&mut images, 19, 0, 0, 0, 1);
+    images
+}
+
+// 23: four moves of the 3 by 3 table, bare, with the swaps of rows 0 and 1, of rows 1 and 2, of columns 0 and 1, of
+// columns 1 and 2, and the transposition.
+fn s23() {
+    let generators = four_moves();
+    let images = images_23();
+    list(
+        b"23\n",
+        9,
+        &generators,
+        b"\x04\x05\x06\x01\x02\x03\x07\x08\x09\
+          \x01\x02\x03\x07\x08\x09\x04\x05\x06\
+          \x02\x01\x03\x05\x04\x06\x08\x07\x09\
+          \x01\x03\x02\x04\x06\x05\x07\x09\x08\
+          \x01\x04\x07\x02\x05\x08\x03\x06\x09",
+        &images,
+    );
 }
 
 // Every sample, line by line of the table.
@@ -305,4 +502,11 @@ fn main() {
     s14();
     p15();
     p16();
+    p17();
+    p18();
+    p19();
+    p20();
+    p21();
+    p22();
+    s23();
 }

@@ -53,10 +53,11 @@ none {due} {answer} width area e z l =
 -- ---- orders
 
 -- the order that is lent
-pub order-read : (file : List ℕ) (c : Counts) {generators : List ℤ} {exchanges : List ℕ}
-    → OrderRead file c generators exchanges
-    → orderOf (c .cells) (take (c .generators * c .cells) generators) (take (c .exchanges * c .cells) exchanges) ≡ orderIn file c
-order-read file c R = ap₂ (orderOf (c .cells)) (R .generatorsAre) (R .exchangesAre)
+pub order-read : (file : List ℕ) (c : Counts) {generators : List ℤ} {exchanges : List ℕ} {images : List ℤ}
+    → OrderRead file c generators exchanges images
+    → orderOf (c .cells) (take (c .generators * c .cells) generators) (take (c .exchanges * c .cells) exchanges) (take (c .images * c .generators) images)
+    ≡ orderIn file c
+order-read file c R = (λ i. orderOf (c .cells) (R .generatorsAre i) (R .exchangesAre i) (R .imagesAre i))
 
 -- ---- List
 

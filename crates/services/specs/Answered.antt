@@ -7,33 +7,39 @@ use lib.ListN.{length, take}
 use denote.Ref.{now}
 use Rattle.definitions.specs.declared.Answer.{Answer}
 use Rattle.definitions.specs.declared.Answer.the-variants.{Moves, Split, Passed, Refused}
-use Rattle.definitions.specs.Limits.{cells, exchangeLimit, generatorLimit}
+use Rattle.definitions.specs.Limits.{bareLimit, cells, exchangeLimit, generatorLimit}
 use Rattle.definitions.specs.Lent.{chunks, filled}
 use Rattle.theory.proofs.Refused.{placeLimit}
 use Rattle.vectors.specs.Areas.{Lent}
 use Rattle.orders.specs.declared.Service.{Service}
 use Rattle.orders.specs.declared.Counts.{Counts}
 use Rattle.orders.specs.declared.Scanned.the-variants.{Counted as Accepted}
-use Rattle.orders.specs.Operands.{Readable, exchangesIn, generatorsIn}
+use Rattle.orders.specs.Operands.{Readable, exchangesIn, generatorsIn, imagesIn}
 use Rattle.answers.specs.Answers.{lineCount}
 use Rattle.answers.specs.Refusal.{placeFactor}
 use Rattle.promises.specs.Services.{CallEnd, Served, servedBy}
 use Rattle.promises.specs.Promise.{ForInput}
 
--- the commands of a file can be read, its counts say how many numbers they have, and two areas have room for any
-pub record OrderFits (file : List ℕ) (c : Counts) (generators : List ℤ) (exchanges : List ℕ) : Type 0 where
+-- the commands of a file can be read, its counts say how many numbers they have, and three areas have room for any
+pub record OrderFits (file : List ℕ) (c : Counts) (generators : List ℤ) (exchanges : List ℕ) (images : List ℤ)
+    : Type 0 where
   pub readable : Readable file c
   pub generatorsCount : length (generatorsIn file c) ≡ c .generators * c .cells
   pub exchangesCount : length (exchangesIn file c) ≡ c .exchanges * c .cells
+  pub imagesCount : length (imagesIn file c) ≡ c .images * c .generators
   pub generatorsFit : generatorLimit * cells ≤ length generators
   pub exchangesFit : exchangeLimit * cells ≤ length exchanges
+  pub imagesFit : exchangeLimit * bareLimit * bareLimit ≤ length images
 
--- the generators and the exchanges of a file stand at the start of two areas
-pub record OrderRead (file : List ℕ) (c : Counts) (generators : List ℤ) (exchanges : List ℕ) : Type 0 where
+-- the generators, the exchanges and the images of a file stand at the start of three areas
+pub record OrderRead (file : List ℕ) (c : Counts) (generators : List ℤ) (exchanges : List ℕ) (images : List ℤ)
+    : Type 0 where
   pub generatorsFit : c .generators * c .cells ≤ length generators
   pub exchangesFit : c .exchanges * c .cells ≤ length exchanges
+  pub imagesFit : c .images * c .generators ≤ length images
   pub generatorsAre : take (c .generators * c .cells) generators ≡ generatorsIn file c
   pub exchangesAre : take (c .exchanges * c .cells) exchanges ≡ exchangesIn file c
+  pub imagesAre : take (c .images * c .generators) images ≡ imagesIn file c
 
 -- what is due to an accepted file with these counts
 abbrev pub servedIn : Service → (file : List ℕ) → Counts → Served

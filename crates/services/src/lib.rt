@@ -14,6 +14,7 @@ ghost use Rattle.services.specs.Answered.{OrderFits, OrderRead, Serves, 
 ghost use Rattle.services.specs.Answered.{Counted, EndsIn, PrintedFor, PrintsIn, Small};
 use answers::lengths::TEXT_LIMIT;
 use definitions::Answer;
+use definitions::limits::BARE_LIMIT;
 use definitions::limits::CELLS;
 use definitions::limits::EXCHANGE_LIMIT;
 use definitions::limits::GENERATOR_LIMIT;
@@ -28,6 +29,7 @@ use orders::Service;
 use orders::operands::read_coefficients;
 use orders::operands::read_exchanges;
 use orders::operands::read_generators;
+use orders::operands::read_images;
 use orders::operands::read_rows;
 use orders::operands::read_vector;
 use vectors::clear_bytes;
@@ -36,6 +38,8 @@ use vectors::clear_bytes;
 const GENERATOR_NUMBERS: usize = GENERATOR_LIMIT * CELLS;
 
 const EXCHANGE_NUMBERS: usize = EXCHANGE_LIMIT * CELLS;
+
+const IMAGE_NUMBERS: usize = EXCHANGE_LIMIT * BARE_LIMIT * BARE_LIMIT;
 
 const LIST_NUMBERS: usize = LIST_LIMIT * CELLS;
 
@@ -56,26 +60,35 @@ struct Reply {
     width: usize,
 }
 
-// The generators and the exchanges of an accepted file, into areas for any order.
-fn read_order(order: &[u8], c: Counts, generators: &mut [i32], exchanges: &mut [u8])
-    requires fits { ⌜ OrderFits (now order) c (now generators) (now exchanges) ⌝ }
-    ensures read { λ _. ⌜ OrderRead (now (order .entry)) c (now (generators .exit)) (now (exchanges .exit)) ⌝ }
+// The generators, the exchanges and the images of an accepted file, into areas for any order.
+fn read_order(
+    order: &[u8],
+    c: Counts,
+    generators: &mut [i32],
+    exchanges: &mut [u8],
+    images: &mut [i64],
+)
+    requires fits { ⌜ OrderFits (now order) c (now generators) (now exchanges) (now images) ⌝ }
+    ensures read { λ _. ⌜
+        OrderRead (now (order .entry)) c (now (generators .exit)) (now (exchanges .exit)) (now (images .exit))
+        ⌝ }
 {
     read_generators(order, c, generators);
     read_exchanges(order, c, exchanges);
+    read_images(order, c, images);
 }
 
-// List on an accepted file whose generators and exchanges were read: its answer, and its rows at the start of an area
-// for any list.
+// List on an accepted file whose order was read: its answer, and its rows at the start of an area for any list.
 fn list_order(
     order: &[u8],
     c: Counts,
     generators: &[i32],
     exchanges: &[u8],
+    images: &[i64],
     list: &mut [i32],
 ) -> Answer
     requires accepted { ⌜ scanOf Service.List (now order) ≡ Scanned.Counted c ⌝ }
-    requires read { ⌜ OrderRead (now order) c (now generators) (now exchanges) ⌝ }
+    requires read { ⌜ OrderRead (now order) c (now generators) (now exchanges) (now images) ⌝ }
     requires room { ⌜ listLimit * cells ≤ length (now list) ⌝ }
     ensures served { λ r. ⌜ Serves (servedIn Service.List (now (order .entry)) c) r (c .cells) (now (list .exit)) ⌝ }
 {
@@ -83,12 +96,14 @@ fn list_order(
     let n = c.cells;
     let m = c.generators * n;
     let e = c.exchanges * n;
+    let i = c.images * c.generators;
     let l = LIST_LIMIT * n;
     let g = GROUP_LIMIT * n;
     moves::list(
         n,
         &generators[..m],
         &exchanges[..e],
+        &images[..i],
         &mut list[..l],
         &mut group[..g],
     )
@@ -102,20 +117,22 @@ fn list_file(order: &[u8], c: Counts, list: &mut [i32]) -> Answer
 {
     let mut generators = [0i32; GENERATOR_NUMBERS];
     let mut exchanges = [0u8; EXCHANGE_NUMBERS];
-    read_order(order, c, &mut generators, &mut exchanges);
-    list_order(order, c, &generators, &exchanges, list)
+    let mut images = [0i64; IMAGE_NUMBERS];
+    read_order(order, c, &mut generators, &mut exchanges, &mut images);
+    list_order(order, c, &generators, &exchanges, &images, list)
 }
 
-// Split on an accepted file whose generators and exchanges were read: its answer, and its pieces in the pieces area.
+// Split on an accepted file whose order was read: its answer, and its pieces in the pieces area.
 fn split_order(
     order: &[u8],
     c: Counts,
     generators: &[i32],
     exchanges: &[u8],
+    images: &[i64],
     pieces: &mut [i32],
 ) -> Answer
     requires accepted { ⌜ scanOf Service.Split (now order) ≡ Scanned.Counted c ⌝ }
-    requires read { ⌜ OrderRead (now order) c (now generators) (now exchanges) ⌝ }
+    requires read { ⌜ OrderRead (now order) c (now generators) (now exchanges) (now images) ⌝ }
     requires room { ⌜ length (now pieces) ≡ piecesSize ⌝ }
     ensures served { λ r. ⌜
         Serves (servedIn Service.Split (now (order .entry)) c) r pieceWidth (now (pieces .exit))
@@ -127,6 +144,7 @@ fn split_order(
     let n = c.cells;
     let m = c.generators * n;
     let e = c.exchanges * n;
+    let i = c.images * c.generators;
     let l = LIST_LIMIT * n;
     let g = GROUP_LIMIT * n;
     read_vector(order, c, &mut vector);
@@ -134,6 +152,7 @@ fn split_order(
         n,
         &generators[..m],
         &exchanges[..e],
+        &images[..i],
         &vector[..n],
         &mut list[..l],
         &mut group[..g],
@@ -151,14 +170,21 @@ fn split_file(order: &[u8], c: Counts, pieces: &mut [i32]) -> Answer
 {
     let mut generators = [0i32; GENERATOR_NUMBERS];
     let mut exchanges = [0u8; EXCHANGE_NUMBERS];
-    read_order(order, c, &mut generators, &mut exchanges);
-    split_order(order, c, &generators, &exchanges, pieces)
+    let mut images = [0i64; IMAGE_NUMBERS];
+    read_order(order, c, &mut generators, &mut exchanges, &mut images);
+    split_order(order, c, &generators, &exchanges, &images, pieces)
 }
 
-// Check on an accepted file whose generators and exchanges were read: its answer.
-fn check_order(order: &[u8], c: Counts, generators: &[i32], exchanges: &[u8]) -> Answer
+// Check on an accepted file whose order was read: its answer.
+fn check_order(
+    order: &[u8],
+    c: Counts,
+    generators: &[i32],
+    exchanges: &[u8],
+    images: &[i64],
+) -> Answer
     requires accepted { ⌜ scanOf Service.Check (now order) ≡ Scanned.Counted c ⌝ }
-    requires read { ⌜ OrderRead (now order) c (now generators) (now exchanges) ⌝ }
+    requires read { ⌜ OrderRead (now order) c (now generators) (now exchanges) (now images) ⌝ }
     ensures served { λ r. ⌜ r ≡ servedIn Service.Check (now (order .entry)) c .answer ⌝ }
 {
     let mut rows = [0i32; LIST_NUMBERS];
@@ -167,6 +193,7 @@ fn check_order(order: &[u8], c: Counts, generators: &[i32], exchanges: &[u8]) ->
     let n = c.cells;
     let m = c.generators * n;
     let e = c.exchanges * n;
+    let i = c.images * c.generators;
     let k = c.rows * n;
     let q = c.rows * c.generators;
     let g = GROUP_LIMIT * n;
@@ -176,6 +203,7 @@ fn check_order(order: &[u8], c: Counts, generators: &[i32], exchanges: &[u8]) ->
         n,
         &generators[..m],
         &exchanges[..e],
+        &images[..i],
         &rows[..k],
         &coefficients[..q],
         &mut group[..g],
@@ -189,8 +217,9 @@ fn check_file(order: &[u8], c: Counts) -> Answer
 {
     let mut generators = [0i32; GENERATOR_NUMBERS];
     let mut exchanges = [0u8; EXCHANGE_NUMBERS];
-    read_order(order, c, &mut generators, &mut exchanges);
-    check_order(order, c, &generators, &exchanges)
+    let mut images = [0i64; IMAGE_NUMBERS];
+    read_order(order, c, &mut generators, &mut exchanges, &mut images);
+    check_order(order, c, &generators, &exchanges, &images)
 }
 
 // List on any file: its answer, and its rows in an area for any list.

@@ -2,7 +2,7 @@
 -- member of the group keeps the lattice. Assumes nothing.
 use mathlib.Core.Path.{_≡_, refl, sym, _∙_, subst}
 use mathlib.Core.Bool.{Bool, true, false, not, _&&_, _||_}
-use mathlib.Core.List.{List, [], _∷_, List·Memᴰ}
+use mathlib.Core.List.{List, [], _∷_, map, List·Memᴰ, List·Memᴰ·head, List·Memᴰ·tail, Memᴰ·append-left, Memᴰ·append-right}
 use Prim.Native.Nat.{ℕ, zero, suc, _-_, _≤_}
 use borrow.Author.Tests.{leb-true, not-false}
 use lib.Dec.{leb}
@@ -10,22 +10,25 @@ use lib.IntN.{ℤ, pos, natAbs}
 use lib.ListN.{length, getD, take, drop, replicate, length-append, length-replicate, length-take}
 use native.Mathlib.Omega.{arith}
 use Rattle.definitions.specs.declared.Fault.the-variants.{None}
-use Rattle.definitions.specs.Limits.{cells, entryLimit, groupLimit}
-use Rattle.definitions.specs.Vector.{Vector, isMember, isZero, negative, padded, plus, zeroVector}
-use Rattle.definitions.specs.Lattice.{InLattice}
+use Rattle.definitions.specs.Limits.{cells, entryLimit, groupLimit, imageLimit}
+use Rattle.definitions.specs.Lists.{any, if_then_else_}
+use Rattle.definitions.specs.Vector.{Vector, equal, isMember, isZero, negative, padded, plus, zeroVector}
+use Rattle.definitions.specs.Lattice.{InLattice, combination}
 use Rattle.definitions.specs.Group.{Exchange, exchanged, isExchange}
-use Rattle.definitions.specs.Lent.{Order, chunks, exchangesOf, generatorsOf, groupRows, rowsOf, tableOf, vectorsOf}
-use Rattle.definitions.specs.Refusals.{cellsFault, faultWhere, admissionFault, isGenerator, isPast, leavesGenerators, numbersFault, orderFault, sizeFault, symmetryFault}
-use Rattle.theory.proofs.Tests.{and-true-left, and-true-right, clash}
-use Rattle.theory.proofs.Members.{Each, any-none, each-append, each-both, each-cons, each-from, each-image, each-map, each-member, each-nil, member-place}
+use Rattle.definitions.specs.Lent.{Order, chunks, exchangesOf, generatorsOf, groupRows, isBare, rowsOf, tableOf, vectorsOf}
+use Rattle.definitions.specs.Refusals.{cellsFault, faultWhere, admissionFault, isGenerator, isPast, isUncertified, numbersFault, orderFault, sizeFault, symmetryFault}
+use Rattle.definitions.specs.Refusals.{imagesFault, latticeFault, leavesGenerators, leavingFault, sentImages}
+use Rattle.theory.proofs.Tests.{and-true-left, and-true-right, clash, or-false-right}
+use Rattle.theory.proofs.Lists.{mem-map}
+use Rattle.theory.proofs.Members.{Each, any-none, each-append, each-both, each-cons, each-from, each-image, each-map, each-member, each-nil, each-of, member-place}
 use Rattle.theory.proofs.Vector.{length-negative, length-plus, length-zero, negative-negative}
-use Rattle.theory.proofs.Lattice.{lattice-generator, lattice-ind, lattice-negative, lattice-plus, lattice-zeros}
+use Rattle.theory.proofs.Lattice.{combination-inside, lattice-generator, lattice-ind, lattice-negative, lattice-plus, lattice-zeros}
 use Rattle.theory.proofs.Exchanges.{AllExchanges, valid-of}
 use Rattle.theory.proofs.GroupTable.{table-of-group}
 use Rattle.theory.proofs.Action.{exchanged-negative, exchanged-plus, exchanged-zero}
 use Rattle.theory.proofs.Symmetric.{Symmetric}
 use Rattle.theory.proofs.Bounds.{Within, not-zero}
-use Rattle.theory.proofs.Equal.{is-member}
+use Rattle.theory.proofs.Equal.{equal-same, is-member}
 use Rattle.theory.proofs.Faults.{if-none, tests-none, where-none}
 
 -- ---- rows of numbers as vectors
@@ -135,7 +138,7 @@ numbers-none order e =
 pub record Acceptable (order : Order) (groupSize : ℕ) : Type 0 where
   pub sendable : Sendable order
   pub roomy : length (tableOf order groupSize) ≤ groupRows (order .n) groupSize
-  pub closed : Each (λ g. leavesGenerators (generatorsOf order) (exchangesOf order) g ≡ false) (generatorsOf order)
+  pub keeping : latticeFault order ≡ None
 
 pub order-none : (order : Order) (groupSize : ℕ) → orderFault order groupSize ≡ None → Acceptable order groupSize
 unfolding orderFault symmetryFault
@@ -146,11 +149,8 @@ order-none order groupSize e =
     record {
       sendable = numbers-none order (both .0);
       roomy = leb-true _ _ (not-false (leb (length (tableOf order groupSize)) (groupRows (order .n) groupSize)) (if-none 10 _ (d .0)));
-      closed = each-from generators [] (where-none 11 (length generators) (λ p. leavesGenerators generators (exchangesOf order) (getD generators p [])) .0 (f .0));
+      keeping = f .0;
     }
-  where
-    generators : List Vector
-    generators = generatorsOf order
 
 -- the table has at most so many rows as a group may have members
 pub table-small : (order : Order) (groupSize : ℕ) → orderFault order groupSize ≡ None → length (tableOf order groupSize) ≤ groupLimit
@@ -158,7 +158,7 @@ unfolding groupRows
 table-small order groupSize e = omega (arith, order-none order groupSize e .roomy)
 
 -- ---- the lattice is kept
-is-generator : (generators : List Vector) → Each (λ g. length g ≡ cells) generators → (v : Vector) → isGenerator generators v ≡ true → InLattice generators v
+pub is-generator : (generators : List Vector) → Each (λ g. length g ≡ cells) generators → (v : Vector) → isGenerator generators v ≡ true → InLattice generators v
 unfolding isGenerator
 is-generator generators sizes v e = go (isMember v generators) refl (isMember (negative v) generators) refl e
   where
@@ -188,12 +188,65 @@ pub generators-length : (order : Order) → order .n ≤ cells → Each (λ g. l
 unfolding generatorsOf
 generators-length order h = vectors-length (order .n) (order .generators) h
 
-stays-generator : (generators : List Vector) (sent : List Exchange) (g : Vector) → leavesGenerators generators sent g ≡ false → (s : Exchange) → List·Memᴰ s sent → isGenerator generators (exchanged s g) ≡ true
+-- 11: the image of a generator is one, or the negative of one
+pub stays-generator : (generators : List Vector) (sent : List Exchange) (g : Vector) → leavesGenerators generators sent g ≡ false → (s : Exchange) → List·Memᴰ s sent → isGenerator generators (exchanged s g) ≡ true
 unfolding leavesGenerators
 stays-generator generators sent g h s k =
     not-false (isGenerator generators (exchanged s g)) (each-member (any-none (λ t. not (isGenerator generators (exchanged t g))) sent h) k)
 
--- AN ORDER THAT MEETS NO TEST UP TO 11 keeps its lattice, and its table is its group's
+pub closed-stays : {generators : List Vector} {sent : List Exchange} → leavingFault generators sent ≡ None → (s : Exchange) → List·Memᴰ s sent → Each (λ g. isGenerator generators (exchanged s g) ≡ true) generators
+unfolding leavingFault
+closed-stays {generators} {sent} e s k =
+    each-map (λ g (f : leavesGenerators generators sent g ≡ false). stays-generator generators sent g f s k)
+    (each-from generators [] (where-none 11 (length generators) (λ p. leavesGenerators generators sent (getD generators p [])) .0 e))
+
+-- 23: the image of a generator is the combination that is sent for it
+in-images : (generators : List Vector) {sent : List Exchange} (s : Exchange) (g : Vector) → List·Memᴰ s sent → List·Memᴰ g generators → List·Memᴰ (exchanged s g) (sentImages generators sent)
+unfolding sentImages
+in-images generators s g (List·Memᴰ·head {x = t} {xs = sent} e) k =
+    Memᴰ·append-left (sentImages generators sent) (subst (λ (r : Exchange). List·Memᴰ (exchanged s g) (map (exchanged r) generators)) e (mem-map (exchanged s) generators k))
+in-images generators s g (List·Memᴰ·tail {x = t} {xs = sent} m) k = Memᴰ·append-right (map (exchanged t) generators) (in-images generators s g m k)
+
+pub certified : (limit : ℕ) (generators : List Vector) → Each (λ g. length g ≡ cells) generators → (coefficients : List ℤ) (v : Vector) → isUncertified limit generators coefficients v ≡ false → InLattice generators v
+unfolding isUncertified
+certified limit generators sizes coefficients v e =
+    let b = or-false-right (any (isPast limit) coefficients) (not (equal (combination coefficients generators) v)) e in
+    subst (InLattice generators) (equal-same (combination coefficients generators) v (not-false (equal (combination coefficients generators) v) b)) (combination-inside coefficients sizes)
+
+shown-keeps : (generators : List Vector) (sent : List Exchange) (coefficients : List ℤ) → Each (λ g. length g ≡ cells) generators → imagesFault generators sent coefficients ≡ None
+    → (s : Exchange) → List·Memᴰ s sent → Each (λ g. InLattice generators (exchanged s g)) generators
+unfolding imagesFault
+shown-keeps generators sent coefficients sizes e s k = each-of generators (λ g m. one (exchanged s g) (in-images generators s g k m))
+  where
+    images : List Vector
+    images = sentImages generators sent
+
+    certificates : List (List ℤ)
+    certificates = chunks (length generators) (length images) coefficients
+
+    one : (v : Vector) → List·Memᴰ v images → InLattice generators v
+    one v m =
+        let at = member-place [] m in
+        subst (InLattice generators) (at .2)
+        (certified imageLimit generators sizes (getD certificates (at .0) []) (getD images (at .0) [])
+        (where-none 23 (length images) (λ p. isUncertified imageLimit generators (getD certificates p []) (getD images p [])) .0 e (at .0) (at .1)))
+
+-- EITHER TEST makes sure that the images of generators are in the lattice
+order-keeps : (order : Order) → order .n ≤ cells → latticeFault order ≡ None → (s : Exchange) → List·Memᴰ s (exchangesOf order) → Each (λ g. InLattice (generatorsOf order) (exchanged s g)) (generatorsOf order)
+unfolding latticeFault
+order-keeps order h e s k = go (isBare order) e
+  where
+    generators : List Vector
+    generators = generatorsOf order
+
+    sizes : Each (λ g. length g ≡ cells) generators
+    sizes = generators-length order h
+
+    go : (b : Bool) → (if b then imagesFault generators (exchangesOf order) (order .images) else leavingFault generators (exchangesOf order)) ≡ None → Each (λ g. InLattice generators (exchanged s g)) generators
+    go true f = shown-keeps generators (exchangesOf order) (order .images) sizes f s k
+    go false f = each-map (λ g (t : isGenerator generators (exchanged s g) ≡ true). is-generator generators sizes (exchanged s g) t) (closed-stays f s k)
+
+-- AN ORDER THAT MEETS NO TEST UP TO 11, OR 23 IN ITS PLACE, keeps its lattice, and its table is its group's
 pub order-symmetric : (order : Order) (groupSize : ℕ) → cellsFault (order .n) ≡ None → orderFault order groupSize ≡ None
     → Symmetric (order .n) (exchangesOf order) (tableOf order groupSize) (generatorsOf order)
 unfolding tableOf
@@ -202,7 +255,7 @@ order-symmetric order groupSize e f = record {
   sizes = sizes;
   exchanges = A .sendable .exchanges;
   isTable = table-of-group (order .n) (exchangesOf order) (groupRows (order .n) groupSize) (A .roomy);
-  keeps = λ s k. exchange-keeps (generatorsOf order) sizes s (omega (arith, valid-of (order .n) s (A .sendable .exchanges s k) .long, cells-none (order .n) e .most)) (each-map (λ g (h : leavesGenerators (generatorsOf order) (exchangesOf order) g ≡ false). kept s k g h) (A .closed));
+  keeps = λ s k. exchange-keeps (generatorsOf order) sizes s (omega (arith, valid-of (order .n) s (A .sendable .exchanges s k) .long, cells-none (order .n) e .most)) (order-keeps order (cells-none (order .n) e .most) (A .keeping) s k);
 }
   where
     A : Acceptable order groupSize
@@ -210,9 +263,6 @@ order-symmetric order groupSize e f = record {
 
     sizes : Each (λ g. length g ≡ cells) (generatorsOf order)
     sizes = generators-length order (cells-none (order .n) e .most)
-
-    kept : (s : Exchange) → List·Memᴰ s (exchangesOf order) → (g : Vector) → leavesGenerators (generatorsOf order) (exchangesOf order) g ≡ false → InLattice (generatorsOf order) (exchanged s g)
-    kept s k g h = is-generator (generatorsOf order) sizes (exchanged s g) (stays-generator (generatorsOf order) (exchangesOf order) g h s k)
 
 -- its generators are nonzero and within the limit
 pub order-generators : (order : Order) (groupSize : ℕ) → orderFault order groupSize ≡ None → Each (λ g. ¬ (g ≡ zeroVector)) (generatorsOf order) × Each (Within entryLimit) (generatorsOf order)

@@ -1,10 +1,10 @@
 -- CHECK (Specification 5.2, demand 3): no refusal if and only if the rules are kept and the list is whole; of a passed list every lattice
 -- vector is a sum of images of rows, none opposing it. Assumes nothing.
-use mathlib.Core.Path.{_≡_, refl, sym, _∙_, ap, subst, ap₂}
+use mathlib.Core.Path.{_≡_, refl, sym, _∙_, ap, subst}
 use mathlib.Core.Logic.{_↔_}
 use mathlib.Core.Bool.{true, false, not, _||_}
 use mathlib.Core.List.{List, []}
-use Prim.Native.Nat.{ℕ, suc, _*_, _/_, _≤_, _<_}
+use Prim.Native.Nat.{ℕ, suc, _/_, _<_}
 use borrow.Author.Tests.{not-false}
 use lib.IntN.{ℤ}
 use lib.ListN.{length, getD, length-map}
@@ -13,18 +13,17 @@ use Rattle.definitions.specs.declared.Answer.the-variants.{Passed}
 use Rattle.definitions.specs.declared.Fault.{Fault}
 use Rattle.definitions.specs.declared.Fault.the-variants.{None, At}
 use Rattle.definitions.specs.Limits.{coefficientLimit, entryLimit}
-use Rattle.definitions.specs.Lists.{any}
 use Rattle.definitions.specs.Vector.{Vector, equal, isZero, padded, within}
-use Rattle.definitions.specs.Lattice.{InLattice, combination}
+use Rattle.definitions.specs.Lattice.{InLattice}
 use Rattle.definitions.specs.Group.{Exchange, identity, unit}
 use Rattle.definitions.specs.Orbit.{IsImage, precedes, representative}
 use Rattle.definitions.specs.Completion.{hasOtherBelow, remainder, sumCount}
 use Rattle.definitions.specs.Lent.{Order, chunks, exchangesOf, generatorsOf, rowsOf, tableOf, vectorsOf}
-use Rattle.definitions.specs.Refusals.{admissionFault, broughtFits, faultWhere, isMisplaced, isPast, isUncertified, isUnfit, rowsFault, sizeFault, wholenessFault}
+use Rattle.definitions.specs.Refusals.{admissionFault, broughtFits, faultWhere, isMisplaced, isUncertified, isUnfit, rowsFault, wholenessFault}
 use Rattle.definitions.specs.Calls.{checkCall, checkEnd, checkFault, rulesFault}
 use Rattle.definitions.specs.Demands.{ConformalSum, Sorted, RulesKept, Whole}
 use Rattle.theory.proofs.Tests.{or-false-left, or-false-right}
-use Rattle.theory.proofs.Lists.{chunks-length, row-long}
+use Rattle.theory.proofs.Lists.{chunks-length}
 use Rattle.theory.proofs.Members.{Each, each-from, each-member, member-place}
 use Rattle.theory.proofs.Below.{unopposed}
 use Rattle.theory.proofs.Symmetric.{Symmetric}
@@ -35,8 +34,7 @@ use Rattle.theory.proofs.Sums.{sums-none}
 use Rattle.theory.proofs.Sorting.{sorted-ascends, ascends-once}
 use Rattle.theory.proofs.Listing.{Passes, passes-conformal, passes-whole, whole-passes}
 use Rattle.theory.proofs.Faults.{none-all, none-end, tests-none, where-none}
-use Rattle.theory.proofs.Sizes.{sizes-of-check}
-use Rattle.theory.proofs.Accepted.{admission-none, order-symmetric}
+use Rattle.theory.proofs.Accepted.{admission-none, certified, order-symmetric}
 
 pub vectors-count : (n : ℕ) (numbers : List ℤ) → length (vectorsOf n numbers) ≡ length numbers / n
 unfolding vectorsOf rowsOf
@@ -67,20 +65,14 @@ placed-sorted : (rows : List Vector) → ((r : ℕ) → r < length rows → isMi
 unfolding isMisplaced
 placed-sorted rows f = record { ascending = λ r l. not-false (precedes (getD rows r []) (getD rows (suc r) [])) (f (suc r) l) }
 
-certified : (generators : List Vector) (coefficients : List ℤ) (row : Vector) → length coefficients ≡ length generators → isUncertified generators coefficients row ≡ false → InLattice generators row
-unfolding isUncertified
-certified generators coefficients row l e =
-    let b = or-false-right (any (isPast coefficientLimit) coefficients) (not (equal (combination coefficients generators) row)) e in
-    record { coefficients = coefficients; oneEach = l; addsUp = equal-same (combination coefficients generators) row (not-false (equal (combination coefficients generators) row) b) }
-
 -- rows that meet none of 17 to 19 may be stored
-module _ {n : ℕ} {sent table : List Exchange} {generators : List Vector} (O : Symmetric n sent table generators) (rows : List Vector) (coefficients : List ℤ) (enough : length rows * length generators ≤ length coefficients)
+module _ {n : ℕ} {sent table : List Exchange} {generators : List Vector} (O : Symmetric n sent table generators) (rows : List Vector) (coefficients : List ℤ)
     (passed : rowsFault table generators rows coefficients ≡ None) where
   abbrev certificates : List (List ℤ)
   certificates = chunks (length generators) (length rows) coefficients
 
   -- 17, 18 and 19 are not met
-  unmet : (faultWhere 17 (length rows) (λ r. isUnfit table (getD rows r [])) ≡ None) × (faultWhere 18 (length rows) (isMisplaced rows) ≡ None) × (faultWhere 19 (length rows) (λ r. isUncertified generators (getD certificates r []) (getD rows r [])) ≡ None)
+  unmet : (faultWhere 17 (length rows) (λ r. isUnfit table (getD rows r [])) ≡ None) × (faultWhere 18 (length rows) (isMisplaced rows) ≡ None) × (faultWhere 19 (length rows) (λ r. isUncertified coefficientLimit generators (getD certificates r []) (getD rows r [])) ≡ None)
   unfolding rowsFault
   unmet =
       let x = tests-none _ _ passed in
@@ -93,9 +85,8 @@ module _ {n : ℕ} {sent table : List Exchange} {generators : List Vector} (O : 
 
   pub rows-stored : Stored O rows
   rows-stored = record {
-    inside = each-from rows [] (λ r l. certified generators (getD certificates r []) (getD rows r [])
-        (row-long (length generators) (length rows) r coefficients l enough)
-        (where-none 19 (length rows) (λ r. isUncertified generators (getD certificates r []) (getD rows r [])) .0 (unmet .2) r l));
+    inside = each-from rows [] (λ r l. certified coefficientLimit generators (O .sizes) (getD certificates r []) (getD rows r [])
+        (where-none 19 (length rows) (λ r. isUncertified coefficientLimit generators (getD certificates r []) (getD rows r [])) .0 (unmet .2) r l));
     nonzero = each-from rows [] (λ r l. not-zero (fit r l .nonzero));
     canonical = each-from rows [] (λ r l. fit r l .canonical);
     once = ascends-once (sorted-ascends rows (placed-sorted rows (where-none 18 (length rows) (isMisplaced rows) .0 (unmet .1))));
@@ -117,9 +108,6 @@ module _ (order : Order) (brought coefficients : List ℤ) (groupSize : ℕ) whe
     pub stored : Stored symmetric rows
     pub nonempty : 0 < length table
 
-  counts : sizeFault order groupSize (broughtFits order brought coefficients) ≡ None → length rows * length (generatorsOf order) ≤ length coefficients
-  counts e = omega (arith, sizes-of-check order brought coefficients groupSize e .oneEach, ap₂ _*_ (vectors-count (order .n) brought) (generators-count order))
-
   pub rules-facts : RulesKept order brought coefficients groupSize → RulesFacts
   unfolding rulesFault
   rules-facts e =
@@ -129,7 +117,7 @@ module _ (order : Order) (brought coefficients : List ℤ) (groupSize : ℕ) whe
       let O = order-symmetric order groupSize (A .cellsPass) (A .testsPass) in
       record {
         symmetric = O;
-        stored = rows-stored O rows coefficients (counts (A .sizesPass)) (d .0);
+        stored = rows-stored O rows coefficients (d .0);
         nonempty = (let at = member-place [] (O .isTable .complete (identity (order .n)) unit) in omega (arith, at .1));
       }
 

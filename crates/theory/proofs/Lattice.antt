@@ -113,6 +113,16 @@ unfolding zeros zeroVector plus combination
 combination-zeros each-nil = refl
 combination-zeros (each-cons {x = g} e h) = ap₂ plus (scale-zero g e) (combination-zeros h) ∙ zero-plus zeroVector length-zero
 
+-- a combination is in the lattice with any number of coefficients: those that lack count as zero
+pub combination-inside : (cs : List ℤ) {gens : List Vector} → Each (λ g. length g ≡ cells) gens → InLattice gens (combination cs gens)
+unfolding zeros zeroVector plus combination
+combination-inside [] {gens} sizes =
+    record { coefficients = zeros (length gens); oneEach = length-zeros (length gens); addsUp = combination-zeros sizes }
+combination-inside (c ∷ cs) each-nil = record { coefficients = []; oneEach = refl; addsUp = refl }
+combination-inside (c ∷ cs) (each-cons {x = g} p sizes) =
+    let h = combination-inside cs sizes in
+    record { coefficients = c ∷ h .coefficients; oneEach = ap suc (h .oneEach); addsUp = ap (plus (scale c g)) (h .addsUp) }
+
 module _ (gens : List Vector) (sizes : Each (λ g. length g ≡ cells) gens) where
   -- ---- the lattice is a group
   pub lattice-length : {v : Vector} → InLattice gens v → length v ≡ cells

@@ -36,6 +36,8 @@ pub mod Faults
 pub mod Sizes
 pub mod Accepted
 pub mod ListCall
+pub mod Unique
+pub mod Bare
 pub mod SplitCall
 pub mod CheckCall
 pub mod Refused

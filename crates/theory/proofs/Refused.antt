@@ -1,23 +1,25 @@
 -- What a refusal of a lent call may report (Specification 7.2): the last number, and how great its place can be. Assumes nothing.
-use mathlib.Core.Path.{_≡_, refl, sym, subst}
-use mathlib.Core.Bool.{Bool}
+use mathlib.Core.Path.{_≡_, refl, sym, subst, ap₂, _∙_}
+use mathlib.Core.Bool.{Bool, true, false}
 use mathlib.Core.Logic.{_⊎_, inl, inr}
-use mathlib.Core.List.{List, [], _∷_}
+use mathlib.Core.List.{List, [], _∷_, map}
 use Prim.Native.Nat.{ℕ, _+_, _*_, _/_, _≤_, _<_}
-use native.Mathlib.Nat.{mul-le-mul, mul-le-mul-left}
+use native.Mathlib.Nat.{mul-le-mul, mul-le-mul-left, suc-mul, zero-mul}
 use native.Mathlib.Omega.{arith}
 use lib.IntN.{ℤ}
-use lib.ListN.{length}
+use lib.ListN.{length, length-append, length-map}
 use Rattle.definitions.specs.declared.Answer.the-variants.{Refused}
 use Rattle.definitions.specs.declared.Fault.{Fault}
 use Rattle.definitions.specs.declared.Fault.the-variants.{None, At}
-use Rattle.definitions.specs.Limits.{generatorLimit, groupLimit, listLimit}
+use Rattle.definitions.specs.Limits.{exchangeLimit, generatorLimit, groupLimit, listLimit}
+use Rattle.definitions.specs.Lists.{if_then_else_}
 use Rattle.definitions.specs.Vector.{Vector, padded}
-use Rattle.definitions.specs.Group.{Exchange}
+use Rattle.definitions.specs.Group.{Exchange, exchanged}
 use Rattle.definitions.specs.Completion.{Completion, completed, running, stopped, sumCount}
 use Rattle.definitions.specs.Split.{Splitting, placedOrbits, splitting}
-use Rattle.definitions.specs.Lent.{Order, exchangesOf, generatorsOf, listRows, rowsOf, tableOf, vectorsOf, wholeRows}
+use Rattle.definitions.specs.Lent.{Order, exchangesOf, generatorsOf, isBare, listRows, rowsOf, tableOf, vectorsOf, wholeRows}
 use Rattle.definitions.specs.Refusals.{Outcome, accepted, admissionFault, broughtFits, cellsFault, firstFault, numbersFault, orderFault, refused, rowsFault, sizeFault, splitFault, splitSizeFault, symmetryFault, wholenessFault}
+use Rattle.definitions.specs.Refusals.{imagesFault, latticeFault, leavingFault, sentImages}
 use Rattle.definitions.specs.Calls.{Listing, Parts, checkCall, checkEnd, checkFault, listCall, listEnd, listing, listingOf, parts, partsOf, rulesFault, splitCall, splitEnd}
 use Rattle.theory.proofs.Lists.{chunks-length}
 use Rattle.theory.proofs.Counting.{completed-near}
@@ -41,24 +43,64 @@ sums-few {g} {k} h l = mul-le-mul (mul-le-mul h l) more
     more : k + 1 ≤ listLimit + 1
     more = omega arith
 
--- a refusal that may be reported, by a call whose last number is `last`
+-- the last number
+abbrev pub lastNumber : ℕ
+lastNumber = 23
+
+-- a refusal that may be reported, by a call whose own last number is `last`; past that there is 23 alone
 pub record Reported (last number place : ℕ) : Type 0 where
   pub some : 1 ≤ number
-  pub low : number ≤ last
+  pub low : number ≤ lastNumber
+  pub own : last < number → number ≡ 23
   pub near : place ≤ placeLimit
+
+-- the same, of a call with more numbers
+reported-more : {last more number place a b : ℕ} → last ≤ more → a ≡ number → b ≡ place → Reported last a b → Reported more number place
+reported-more h y z r = record { some = omega arith; low = omega arith; own = λ k. omega (arith, r .own (omega arith)); near = omega arith }
+
+-- ---- 11, or 23 in its place
+pub images-count : (generators : List Vector) (sent : List Exchange) → length (sentImages generators sent) ≡ length sent * length generators
+unfolding sentImages
+images-count generators [] = sym (zero-mul (length generators))
+images-count generators (s ∷ sent) =
+    length-append (map (exchanged s) generators) (sentImages generators sent) ∙ ap₂ _+_ (length-map generators (exchanged s)) (images-count generators sent) ∙ omega (arith, suc-mul (length sent) (length generators))
+
+pub exchanges-count : (order : Order) → length (exchangesOf order) ≡ length (order .exchanges) / order .n
+unfolding exchangesOf rowsOf
+exchanges-count order = chunks-length (order .n) (length (order .exchanges) / order .n) (order .exchanges)
+
+lattice-said : (order : Order) (last : ℕ) → 13 ≤ last → OrderSized order → Said (Reported last) (latticeFault order)
+unfolding latticeFault imagesFault leavingFault
+lattice-said order last h Z = either (isBare order)
+  where
+    generators : List Vector
+    generators = generatorsOf order
+
+    sent : List Exchange
+    sent = exchangesOf order
+
+    few : length (sentImages generators sent) ≤ exchangeLimit * generatorLimit
+    few =
+        let e : length sent ≤ exchangeLimit = omega (arith, exchanges-count order, Z .exchanges) in
+        let g : length generators ≤ generatorLimit = omega (arith, generators-count order, Z .generators) in
+        omega (arith, images-count generators sent, mul-le-mul e g)
+
+    either : (b : Bool) → Said (Reported last) (if b then imagesFault generators sent (order .images) else leavingFault generators sent)
+    either true = said-where 23 _ _ (λ p l. omega (arith, few))
+    either false = said-where 11 _ _ (λ p l. omega (arith, Z .generators, generators-count order))
 
 -- ---- 7 to 11
 order-said : (order : Order) (groupSize last : ℕ) → 13 ≤ last → Sized (order .n) → OrderSized order → Said (Reported last) (orderFault order groupSize)
-unfolding orderFault numbersFault symmetryFault exchangesOf rowsOf
+unfolding orderFault numbersFault symmetryFault
 order-said order groupSize last h S Z =
     said-first _
     (said-first _ (said-where 7 _ _ (λ p l. omega (arith, Z .numbers, mul-le-mul-left generatorLimit (S .most))))
     (λ e. said-first _ (said-where 8 _ _ (λ p l. omega (arith, Z .generators, generators-count order)))
-    (λ e. said-first _ (said-where 9 _ _ (λ p l. omega (arith, Z .exchanges, chunks-length (order .n) (length (order .exchanges) / order .n) (order .exchanges))))
+    (λ e. said-first _ (said-where 9 _ _ (λ p l. omega (arith, Z .exchanges, exchanges-count order)))
     (λ e. said-end (Reported last)))))
     (λ e. said-first _
     (said-first _ (said-if 10 _ (omega arith))
-    (λ e. said-first _ (said-where 11 _ _ (λ p l. omega (arith, Z .generators, generators-count order)))
+    (λ e. said-first _ (lattice-said order last h Z)
     (λ e. said-end (Reported last))))
     (λ e. said-end (Reported last)))
 
@@ -100,7 +142,8 @@ module _ (order : Order) (listSize groupSize : ℕ) where
       let stops = twelve (completed-stops table limit (generatorsOf order) number place q) in
       record {
         some = stops .0;
-        low = stops .1;
+        low = omega (arith, stops .1);
+        own = λ h. absurd (omega (arith, stops .1));
         near = omega (arith, tried, sums-few (table-small order groupSize (A .testsPass)) used);
       }
     where
@@ -115,7 +158,7 @@ module _ (order : Order) (listSize groupSize : ℕ) where
     where
       stops : tests ≡ None → (c : Completion) → completed table limit (generatorsOf order) ≡ c → listingOf table c ≡ refused number place → Reported 13 number place
       stops h (running s) q x = accepted-refused (sym x)
-      stops h (stopped a b) q x = let y : a ≡ number = cc in let z : b ≡ place = cc in let r = stop-reported h a b q in omega arith
+      stops h (stopped a b) q x = let y : a ≡ number = cc in let z : b ≡ place = cc in reported-more (omega arith) y z (stop-reported h a b q)
 
       go : (tests ≡ At number place) ⊎ ((tests ≡ None) × (listingOf table (completed table limit (generatorsOf order)) ≡ refused number place)) → Reported 13 number place
       go (inl x) = subst (Said (Reported 13)) x tests-said .said
@@ -148,7 +191,7 @@ module _ (order : Order) (vector : List ℤ) (listSize groupSize piecesSize : �
   split-reported number place e = go (unless-refused sizes (partsOf vector piecesSize (listing order listSize groupSize)) e)
     where
       after : sizes ≡ None → (o : Outcome Listing) → listing order listSize groupSize ≡ o → partsOf vector piecesSize o ≡ refused number place → Reported 16 number place
-      after h (refused a b) q x = let y : a ≡ number = cc in let z : b ≡ place = cc in let r = list-reported order listSize groupSize a b q in omega arith
+      after h (refused a b) q x = let y : a ≡ number = cc in let z : b ≡ place = cc in reported-more (omega arith) y z (list-reported order listSize groupSize a b q)
       after h (accepted l) q x = pick (unless-refused (splitFault vector piecesSize taken) (accepted (record { listing = l; pieces = taken .pieces })) x)
         where
           taken : Splitting
@@ -209,7 +252,7 @@ unfolding listCall listEnd
 list-answer-reported order listSize groupSize number place e = go (listing order listSize groupSize) refl e
   where
     go : (o : Outcome Listing) → listing order listSize groupSize ≡ o → listEnd (order .n) listSize groupSize o .answer ≡ Refused number place → Reported 22 number place
-    go (refused a b) q x = let y : a ≡ number = cc in let z : b ≡ place = cc in let r = list-reported order listSize groupSize a b q in omega arith
+    go (refused a b) q x = let y : a ≡ number = cc in let z : b ≡ place = cc in reported-more (omega arith) y z (list-reported order listSize groupSize a b q)
     go (accepted found) q x = let z : _≡_ {A = ℕ} 0 1 = cc in absurd (omega arith)
 
 pub split-answer-reported : (order : Order) (vector : List ℤ) (listSize groupSize piecesSize number place : ℕ) → splitCall order vector listSize groupSize piecesSize .answer ≡ Refused number place → Reported 22 number place
@@ -217,7 +260,7 @@ unfolding splitCall splitEnd
 split-answer-reported order vector listSize groupSize piecesSize number place e = go (parts order vector listSize groupSize piecesSize) refl e
   where
     go : (o : Outcome Parts) → parts order vector listSize groupSize piecesSize ≡ o → splitEnd (order .n) listSize groupSize piecesSize o .answer ≡ Refused number place → Reported 22 number place
-    go (refused a b) q x = let y : a ≡ number = cc in let z : b ≡ place = cc in let r = split-reported order vector listSize groupSize piecesSize a b q in omega arith
+    go (refused a b) q x = let y : a ≡ number = cc in let z : b ≡ place = cc in reported-more (omega arith) y z (split-reported order vector listSize groupSize piecesSize a b q)
     go (accepted found) q x = let z : _≡_ {A = ℕ} 0 1 = cc in absurd (omega arith)
 
 pub check-answer-reported : (order : Order) (rows coefficients : List ℤ) (groupSize number place : ℕ) → checkCall order rows coefficients groupSize .answer ≡ Refused number place → Reported 22 number place
@@ -225,5 +268,5 @@ unfolding checkCall checkEnd
 check-answer-reported order rows coefficients groupSize number place e = go (checkFault order rows coefficients groupSize) refl e
   where
     go : (fault : Fault) → checkFault order rows coefficients groupSize ≡ fault → checkEnd groupSize (length rows / order .n) (tableOf order groupSize) fault .answer ≡ Refused number place → Reported 22 number place
-    go (At a b) q x = let y : a ≡ number = cc in let z : b ≡ place = cc in let r = check-reported order rows coefficients groupSize a b q in omega arith
+    go (At a b) q x = let y : a ≡ number = cc in let z : b ≡ place = cc in reported-more (omega arith) y z (check-reported order rows coefficients groupSize a b q)
     go None q x = let z : _≡_ {A = ℕ} 0 1 = cc in absurd (omega arith)

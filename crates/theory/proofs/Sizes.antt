@@ -1,6 +1,6 @@
 -- What the tests of sizes say of what meets none (Specification 7.3). Assumes nothing.
-use mathlib.Core.Path.{_≡_}
-use mathlib.Core.Bool.{Bool, true, not, _&&_}
+use mathlib.Core.Path.{_≡_, sym, ap, _∙_}
+use mathlib.Core.Bool.{Bool, true, not, _&&_, _||_}
 use mathlib.Core.List.{List}
 use Prim.Native.Nat.{ℕ, _*_, _/_, _%_, _≤_}
 use native.Mathlib.Nat.{div-add-mod, mul-comm, mul-le-mul-left}
@@ -10,9 +10,9 @@ use lib.Dec.{eqb, leb}
 use lib.IntN.{ℤ}
 use lib.ListN.{length}
 use Rattle.definitions.specs.declared.Fault.the-variants.{None}
-use Rattle.definitions.specs.Limits.{generatorLimit, exchangeLimit, listLimit, pieceWidth}
-use Rattle.definitions.specs.Lent.{Order, wholeRows, wholeRowsUpTo}
-use Rattle.definitions.specs.Refusals.{broughtFits, orderFits, sizeFault, splitSizeFault}
+use Rattle.definitions.specs.Limits.{bareLimit, generatorLimit, exchangeLimit, listLimit, pieceWidth}
+use Rattle.definitions.specs.Lent.{Order, isBare, wholeRows, wholeRowsUpTo}
+use Rattle.definitions.specs.Refusals.{broughtFits, imagesFit, orderFits, sizeFault, splitSizeFault}
 use Rattle.theory.proofs.Tests.{and-true-left, and-true-right}
 use Rattle.theory.proofs.Faults.{if-none}
 
@@ -32,21 +32,42 @@ rows-size limit width size e =
     let whole = eqb-true (size % width) 0 (rows-whole limit width size e) in
     omega (arith, div-add-mod size width, mul-le-mul-left width (rows-few limit width size e), mul-comm limit width)
 
--- the generators and the exchanges are at most their limits
+-- a bare order has few generators, and m coefficients for each exchange and generator
+pub record BareSized (order : Order) : Type 0 where
+  pub few : length (order .generators) / order .n ≤ bareLimit
+  pub oneEach : length (order .images)
+      ≡ length (order .exchanges) / order .n * (length (order .generators) / order .n) * (length (order .generators) / order .n)
+
+images-sized : (order : Order) → imagesFit order ≡ true → isBare order ≡ true → BareSized order
+unfolding imagesFit
+images-sized order e b =
+    let m : ℕ = length (order .generators) / order .n in
+    let due : ℕ = length (order .exchanges) / order .n * m * m in
+    let fits : Bool = leb m bareLimit && eqb (length (order .images)) due in
+    let both : fits ≡ true = sym (ap (λ (x : Bool). not x || fits) b) ∙ e in
+    record {
+      few = leb-true m bareLimit (and-true-left (leb m bareLimit) (eqb (length (order .images)) due) both);
+      oneEach = eqb-true (length (order .images)) due (and-true-right (leb m bareLimit) (eqb (length (order .images)) due) both);
+    }
+
+-- the generators and the exchanges are at most their limits, and the images of a bare order are as many as are due
 pub record OrderSized (order : Order) : Type 0 where
   pub numbers : length (order .generators) ≤ generatorLimit * order .n
   pub generators : length (order .generators) / order .n ≤ generatorLimit
   pub exchanges : length (order .exchanges) / order .n ≤ exchangeLimit
+  pub bare : isBare order ≡ true → BareSized order
 
 pub order-sized : (order : Order) → orderFits order ≡ true → OrderSized order
 unfolding orderFits
 order-sized order e =
     let g : Bool = wholeRowsUpTo generatorLimit (order .n) (length (order .generators)) in
     let x : Bool = wholeRowsUpTo exchangeLimit (order .n) (length (order .exchanges)) in
+    let rows = and-true-left (g && x) (imagesFit order) e in
     record {
-      numbers = rows-size generatorLimit (order .n) (length (order .generators)) (and-true-left g x e);
-      generators = rows-few generatorLimit (order .n) (length (order .generators)) (and-true-left g x e);
-      exchanges = rows-few exchangeLimit (order .n) (length (order .exchanges)) (and-true-right g x e);
+      numbers = rows-size generatorLimit (order .n) (length (order .generators)) (and-true-left g x rows);
+      generators = rows-few generatorLimit (order .n) (length (order .generators)) (and-true-left g x rows);
+      exchanges = rows-few exchangeLimit (order .n) (length (order .exchanges)) (and-true-right g x rows);
+      bare = images-sized order (and-true-right (g && x) (imagesFit order) e);
     }
 
 -- 6

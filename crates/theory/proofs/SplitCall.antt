@@ -152,7 +152,7 @@ module _ (order : Order) (vector : List ℤ) (listSize groupSize piecesSize : �
                   (said-first _ (said-none Not15) (λ e. said-first _ (said-if 16 _ (λ m. omega arith)) (λ f. said-end Not15)))
 
       go : length (padded vector) ≡ cells → (o : Outcome Listing) → listing order listSize groupSize ≡ o → partsOf vector piecesSize o ≡ refused 15 0 → ⊥
-      go p (refused number place) q x = let y : number ≡ 15 = cc in omega (arith, list-reported order listSize groupSize number place q .low)
+      go p (refused number place) q x = let y : number ≡ 15 = cc in omega (arith, list-reported order listSize groupSize number place q .own (omega arith))
       go p (accepted l) q x = pick (unless-refused (splitFault vector piecesSize (taken l vector)) (accepted (record { listing = l; pieces = taken l vector .pieces })) x)
         where
           pick : (splitFault vector piecesSize (taken l vector) ≡ At 15 0) ⊎ ((splitFault vector piecesSize (taken l vector) ≡ None) × (_≡_ {A = Outcome Parts} (accepted (record { listing = l; pieces = taken l vector .pieces })) (refused 15 0))) → ⊥

@@ -17,8 +17,9 @@ abbrev pub vectorsIn : (n : ℕ) (area : Lent ℤ) → List Vector
 vectorsIn n area = vectorsOf n (now (area .entry))
 
 -- the order that a call is sent
-abbrev pub sentOrder : (n : ℕ) (generators : Lent ℤ) (exchanges : Lent ℕ) → Order
-sentOrder n generators exchanges = orderOf n (now (generators .entry)) (now (exchanges .entry))
+abbrev pub sentOrder : (n : ℕ) (generators : Lent ℤ) (exchanges : Lent ℕ) (images : Lent ℤ) → Order
+sentOrder n generators exchanges images =
+    orderOf n (now (generators .entry)) (now (exchanges .entry)) (now (images .entry))
 
 -- an area with zeros from a place on
 abbrev pub clearedFrom : {A : Type 0} → (blank : A) (at : ℕ) (area : List A) → List A

@@ -1,9 +1,10 @@
--- `admit` meets its contract: 5 to 9, and then 10 and 11. Assumes nothing.
+-- `admit` meets its contract: 5 to 9, and then 10, and 11 or 23. Assumes nothing.
 use mathlib.Core.Path.{sym, _∙_}
 use mathlib.Core.List.{[], _∷_}
 use lib.ListN.{length}
 use Rattle.definitions.specs.Lent.{Order, orderOf}
 use Rattle.theory.proofs.Faults.{tests-none}
+use Rattle.theory.proofs.Sizes.{sizes-of-order}
 use Rattle.admission.proofs.Tests.{tabled-early, tabled-late}
 use borrow.Author.Needs.{needs}
 use Rattle.admission.proofs.admit.Statement.{statement}
@@ -11,7 +12,7 @@ use Rattle.admission.proofs.admit.Tie as tie
 
 -- the order that was sent
 abbrev sent : tie.Start → Order
-sent s = orderOf (s .args .n) (s .args .generators .now) (s .args .exchanges .now)
+sent s = orderOf (s .args .n) (s .args .generators .now) (s .args .exchanges .now) (s .args .images .now)
 
 sent-fault-requires : tie.Need-sent-fault-requires
 sent-fault-requires c κs = search needs
@@ -27,7 +28,7 @@ tabulate-requires c κs =
     let e = c .before in
     let a = tests-none _ _ (sym (e .before .before .sent-fault .ensures) ∙ e .enum-told .given .1) in
     let b = tests-none _ _ (a .1) in
-    record { cellsPass = a .0; numbersPass = tests-none _ _ (b .1) .0 }
+    record { cellsPass = a .0; sized = sizes-of-order _ _ _ (b .0) .0; numbersPass = tests-none _ _ (b .1) .0 }
 
 returns : tie.Need-returns
 returns c =

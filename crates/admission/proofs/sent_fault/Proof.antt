@@ -3,8 +3,8 @@ use mathlib.Core.Path.{_≡_, sym, _∙_, ap₂}
 use mathlib.Core.List.{[], _∷_}
 use Rattle.definitions.specs.declared.Fault.{Fault}
 use Rattle.definitions.specs.declared.Fault.the-variants.{None}
-use Rattle.definitions.specs.Lent.{orderOf}
-use Rattle.definitions.specs.Refusals.{cellsFault, firstFault, sizeFault}
+use Rattle.definitions.specs.Lent.{exchangesOf, generatorsOf, orderOf}
+use Rattle.definitions.specs.Refusals.{cellsFault, firstFault, numbersFault, sizeFault}
 use Rattle.theory.proofs.Faults.{first-append, met-first, tests-none, unmet-second}
 use Rattle.theory.proofs.Accepted.{cells-none}
 use borrow.Author.Needs.{needs}
@@ -29,7 +29,7 @@ enum-told c = search needs
 -- what 5 and 6 came to
 early : (c : tie.After-first-met) →
     let s = c .before .before .before .before in
-    c .first-met .result ≡ firstFault (cellsFault (s .args .n) ∷ sizeFault (orderOf (s .args .n) (s .args .generators .now) (s .args .exchanges .now)) (s .args .group) (s .args .fits) ∷ [])
+    c .first-met .result ≡ firstFault (cellsFault (s .args .n) ∷ sizeFault (orderOf (s .args .n) (s .args .generators .now) (s .args .exchanges .now) (s .args .images .now)) (s .args .group) (s .args .fits) ∷ [])
 early c = c .first-met .ensures ∙ ap₂ (λ (x y : Fault). firstFault (x ∷ y ∷ [])) (c .before .before .cells-fault .ensures) (c .before .size-fault .ensures)
 
 numbers-fault-requires : tie.Need-numbers-fault-requires
@@ -44,6 +44,7 @@ returns c =
     met-first _ _ _ (sym (early f) ∙ c .before .fault .given .1) ∙ sym (first-append (_ ∷ _ ∷ []) (_ ∷ []))
 
 returns-2 : tie.Need-returns-2
+unfolding numbersFault generatorsOf exchangesOf
 returns-2 c =
     let e = c .before in
     c .numbers-fault .ensures ∙ unmet-second _ (sym (early (e .before .before)) ∙ e .enum-told .given .1) ∙ sym (first-append (_ ∷ _ ∷ []) (_ ∷ []))

@@ -5,12 +5,10 @@ use Prim.Native.Nat.{ℕ, _*_, _≤_}
 use native.Mathlib.Omega.{arith}
 use lib.ListN.{length}
 use Rattle.definitions.specs.declared.Fault.{Fault}
-use Rattle.definitions.specs.Limits.{entryLimit, groupLimit}
+use Rattle.definitions.specs.Limits.{groupLimit}
 use Rattle.definitions.specs.Group.{groupTable}
-use Rattle.definitions.specs.Lent.{Order, exchangesOf, generatorsOf, groupRows, orderOf, tableOf}
+use Rattle.definitions.specs.Lent.{Order, exchangesOf, groupRows, orderOf, tableOf}
 use Rattle.theory.proofs.Accepted.{Sendable, cells-none, numbers-none}
-use Rattle.theory.proofs.Bounds.{each-within, within-more}
-use Rattle.vectors.specs.Bounds.{headroom}
 use Rattle.group.specs.declared.Built.{Built}
 use Rattle.group.specs.Answer.{areaOf, membersOf}
 use Rattle.group.proofs.Answers.{built-large, built-members}
@@ -23,7 +21,7 @@ use Rattle.admission.proofs.tabulate.Tie as tie
 -- the order that was sent, and the group area's size
 module _ (s : tie.Start) where
   abbrev sent : Order
-  sent = orderOf (s .args .n) (s .args .generators .now) (s .args .exchanges .now)
+  sent = orderOf (s .args .n) (s .args .generators .now) (s .args .exchanges .now) (s .args .images .now)
 
   abbrev size : ℕ
   size = length (s .args .group .now)
@@ -71,12 +69,8 @@ enum-told c = search needs
 enum-known-built : tie.Need-enum-known-built
 enum-known-built c = search needs
 
-leaving-fault-requires : tie.Need-leaving-fault-requires
-unfolding exchangesOf
-leaving-fault-requires c κs =
-    let s = start (c .before .before .before .before .before) in
-    let d = cells-none _ (s .pre .cellsPass) in
-    ((d .least, d .most), (each-within headroom (within-more (omega arith) (fit s .limited)), fit s .exchanges))
+lattice-fault-requires : tie.Need-lattice-fault-requires
+lattice-fault-requires c κs = start (c .before .before .before .before .before) .pre
 
 unless-met-requires : tie.Need-unless-met-requires
 unless-met-requires c κs = search needs
@@ -94,14 +88,14 @@ same-length-2 : tie.Need-same-length-2
 same-length-2 c = search needs
 
 returns-2 : tie.Need-returns-2
-unfolding areaOf generatorsOf exchangesOf
+unfolding areaOf
 returns-2 c =
     let k = c .before .before .before in
     let t = k .before .before .before .before in
     let s = start t in
     let m = built-members _ _ _ (sym (built-is t) ∙ k .built .given .1) in
     tabled-members (sent s) (size s) _ (m .1) (λ h. area-is t _ (k .built .given .1))
-    (c .unless-met .ensures ∙ ap₂ admissionOf (c .before .leaving-fault .ensures) (m .0))
+    (c .unless-met .ensures ∙ ap₂ admissionOf (c .before .lattice-fault .ensures) (m .0))
 
 pub tabulate-spec : {M : Type 1} → statement M
 tabulate-spec =
@@ -111,7 +105,7 @@ tabulate-spec =
     group-table-requires
     enum-told
     enum-known-built
-    leaving-fault-requires
+    lattice-fault-requires
     unless-met-requires
     same-length
     returns

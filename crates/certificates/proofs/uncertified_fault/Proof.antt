@@ -7,6 +7,7 @@ use native.Mathlib.Nat.{div-le-self}
 use native.Mathlib.Omega.{arith}
 use lib.IntN.{ℤ}
 use lib.ListN.{length, getD, take, drop}
+use Rattle.definitions.specs.Limits.{coefficientLimit}
 use Rattle.definitions.specs.Vector.{Vector}
 use Rattle.definitions.specs.Lent.{chunks, vectorsOf}
 use Rattle.definitions.specs.Refusals.{faultFrom, isUncertified}
@@ -22,7 +23,7 @@ abbrev Inv-loop : tie.InvT-loop
 Inv-loop generators rows coefficients n count width p₀ p =
     let gens = vectorsOf n generators in
     let vs = vectorsOf n rows in
-    faultFrom 19 p (length vs - p) (uncertifiedAt gens vs coefficients) ≡ uncertifiedFault gens vs coefficients
+    faultFrom 19 p (length vs - p) (uncertifiedAt coefficientLimit gens vs coefficients) ≡ uncertifiedFault gens vs coefficients
 
 abbrev μ-loop : tie.MeasureT-loop
 μ-loop generators rows coefficients n count width p₀ p = count - p
@@ -39,7 +40,7 @@ module _ (s : tie.Start Inv-loop μ-loop) where
   coefficients = s .args .coefficients .now
 
   abbrev met : ℕ → Bool
-  met = uncertifiedAt generators vs coefficients
+  met = uncertifiedAt coefficientLimit generators vs coefficients
 
   abbrev count : ℕ
   count = length (s .args .rows .now) / s .args .n
@@ -106,7 +107,7 @@ is-uncertified-requires c κs =
     let a = c .before .before .before in
     let s = a .before in
     let oneEach = part-long s (a .loop .p) (c .before .before .loop-test .taken) in
-    (s .pre .0 .1, record { bounded = s .pre .1 .bounded; oneEach = oneEach })
+    (s .pre .0 .1, (record { bounded = s .pre .1 .bounded; oneEach = oneEach }, omega arith))
 
 -- what the two calls say of the row
 row-test : (c : tie.After-is-uncertified Inv-loop μ-loop) →
@@ -117,7 +118,7 @@ row-test c =
     let a = v .before .before in
     let s = a .before in
     let part = part-is s (a .loop .p) (v .before .loop-test .taken) in
-    c .is-uncertified .ensures ∙ ap₂ (isUncertified (generators s)) part (v .vector-at .ensures)
+    c .is-uncertified .ensures ∙ ap₂ (isUncertified coefficientLimit (generators s)) part (v .vector-at .ensures)
 
 returns : tie.Need-returns Inv-loop μ-loop
 returns c =

@@ -44,7 +44,13 @@ unfolding commandOf
 returns-8 c = sym (byte-at _ _ _ (c .before .before .if1 .left) (c .match .keys7))
 
 returns-9 : tie.Need-returns-9
-returns-9 c = let r = c .match .rest in sym (unknown-at _ _ (c .before .before .if1 .left) (r .0 .0 .0 .0 .0 .0 .1) (r .0 .0 .0 .0 .0 .1) (r .0 .0 .0 .0 .1) (r .0 .0 .0 .1) (r .0 .0 .1) (r .0 .1) (r .1))
+unfolding commandOf
+returns-9 c = sym (byte-at _ _ _ (c .before .before .if1 .left) (c .match .keys8))
+
+returns-10 : tie.Need-returns-10
+returns-10 c =
+    let r = c .match .rest in
+    sym (unknown-at _ _ (c .before .before .if1 .left) (r .0 .0 .0 .0 .0 .0 .0 .1) (r .0 .0 .0 .0 .0 .0 .1) (r .0 .0 .0 .0 .0 .1) (r .0 .0 .0 .0 .1) (r .0 .0 .0 .1) (r .0 .0 .1) (r .0 .1) (r .1))
 
 pub command-at-spec : {M : Type 1} → statement M
 command-at-spec =
@@ -60,4 +66,5 @@ command-at-spec =
     returns-6
     returns-7
     returns-8
-    returns-9)
+    returns-9
+    returns-10)

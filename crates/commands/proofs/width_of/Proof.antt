@@ -36,6 +36,12 @@ enum-told-7 c = search needs
 mul-result-4 : tie.Need-mul-result-4
 mul-result-4 c = search needs
 
+enum-told-8 : tie.Need-enum-told-8
+enum-told-8 c = search needs
+
+mul-result-5 : tie.Need-mul-result-5
+mul-result-5 c = search needs
+
 returns : tie.Need-returns
 returns c = search needs
 
@@ -57,6 +63,9 @@ returns-6 c = cc
 returns-7 : tie.Need-returns-7
 returns-7 c = cc
 
+returns-8 : tie.Need-returns-8
+returns-8 c = cc
+
 pub width-of-spec : {M : Type 1} → statement M
 width-of-spec =
     tie.close
@@ -72,10 +81,13 @@ width-of-spec =
     mul-result-3
     enum-told-7
     mul-result-4
+    enum-told-8
+    mul-result-5
     returns
     returns-2
     returns-3
     returns-4
     returns-5
     returns-6
-    returns-7)
+    returns-7
+    returns-8)

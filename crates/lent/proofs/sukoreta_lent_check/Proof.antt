@@ -13,7 +13,7 @@ use Rattle.lent.proofs.sukoreta_lent_check.Tie as tie
 
 -- the order
 abbrev order : tie.Start → Order
-order s = orderOf (s .args .n) (s .args .generators .now) (s .args .exchanges .now)
+order s = orderOf (s .args .n) (s .args .generators .now) (s .args .exchanges .now) (s .args .images .now)
 
 check-requires : tie.Need-check-requires
 check-requires c κs = search needs
@@ -39,7 +39,7 @@ returns c =
     let s = r .before .before .before .before .before .before .before .before .before in
     let l = r .before .before .before .before .check in
     let y = c .before .before .clear-bytes in
-    let P = check-sized (sym (y .kept .0 ∙ l .kept .1 .1 .1 .1 .1 .0)) (l .ensures) in
+    let P = check-sized (sym (y .kept .0 ∙ l .kept .1 .1 .1 .1 .1 .1 .0)) (l .ensures) in
     let k = r .report in
     let R = reports-result (sym (k .kept .0)) (toZ-ofZ w64 (k .result) (record { sfits = k .ok })) (k .ensures) in
     check-cleared (order s) (s .args .rows .now) (s .args .coefficients .now) (y .last .0) (k .last .0) P R
@@ -56,10 +56,10 @@ returns-2 c =
     let r = c .before .before .before in
     let s = r .before .before .before .before .before .before .before .before .before in
     let l = r .before .before .before .before .check in
-    let P = check-sized (sym (l .kept .1 .1 .1 .1 .1 .0)) (l .ensures) in
+    let P = check-sized (sym (l .kept .1 .1 .1 .1 .1 .1 .0)) (l .ensures) in
     let k = r .report in
     let R = reports-result (sym (k .kept .0)) (toZ-ofZ w64 (k .result) (record { sfits = k .ok })) (k .ensures) in
-    check-kept (order s) (s .args .rows .now) (s .args .coefficients .now) (l .last .1 .1 .1 .1 .1 .0) (k .last .0)
+    check-kept (order s) (s .args .rows .now) (s .args .coefficients .now) (l .last .1 .1 .1 .1 .1 .1 .0) (k .last .0)
     P R (c .if1 .left) refl
 
 pub sukoreta-lent-check-spec : {M : Type 1} → statement M

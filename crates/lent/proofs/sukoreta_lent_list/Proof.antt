@@ -14,7 +14,7 @@ use Rattle.lent.proofs.sukoreta_lent_list.Tie as tie
 
 -- the order
 abbrev order : tie.Start → Order
-order s = orderOf (s .args .n) (s .args .generators .now) (s .args .exchanges .now)
+order s = orderOf (s .args .n) (s .args .generators .now) (s .args .exchanges .now) (s .args .images .now)
 
 list-requires : tie.Need-list-requires
 list-requires c κs = search needs
@@ -48,7 +48,7 @@ returns c =
     let x = c .before .before .before .before .before .clear in
     let y = c .before .before .clear-bytes in
     let P =
-    list-sized (sym (x .kept .0 ∙ l .kept .1 .1 .1 .0)) (sym (y .kept .0 ∙ l .kept .1 .1 .1 .1 .0)) (l .ensures) in
+    list-sized (sym (x .kept .0 ∙ l .kept .1 .1 .1 .1 .0)) (sym (y .kept .0 ∙ l .kept .1 .1 .1 .1 .1 .0)) (l .ensures) in
     let k = r .report in
     let R = reports-result (sym (k .kept .0)) (toZ-ofZ w64 (k .result) (record { sfits = k .ok })) (k .ensures) in
     list-cleared (order s) (x .last .0) (y .last .0) (k .last .0) P R
@@ -69,10 +69,10 @@ returns-2 c =
     let r = c .before .before .before in
     let s = r .before .before .before .before .before .before .before .before .before .before .before in
     let l = r .before .before .before .before .before .list in
-    let P = list-sized (sym (l .kept .1 .1 .1 .0)) (sym (l .kept .1 .1 .1 .1 .0)) (l .ensures) in
+    let P = list-sized (sym (l .kept .1 .1 .1 .1 .0)) (sym (l .kept .1 .1 .1 .1 .1 .0)) (l .ensures) in
     let k = r .report in
     let R = reports-result (sym (k .kept .0)) (toZ-ofZ w64 (k .result) (record { sfits = k .ok })) (k .ensures) in
-    list-kept (order s) (l .last .1 .1 .1 .0) (l .last .1 .1 .1 .1 .0) (k .last .0) P R (c .if1 .left) refl refl
+    list-kept (order s) (l .last .1 .1 .1 .1 .0) (l .last .1 .1 .1 .1 .1 .0) (k .last .0) P R (c .if1 .left) refl refl
 
 pub sukoreta-lent-list-spec : {M : Type 1} → statement M
 sukoreta-lent-list-spec =

@@ -14,7 +14,7 @@ use Rattle.lent.proofs.sukoreta_lent_split.Tie as tie
 
 -- the order
 abbrev order : tie.Start → Order
-order s = orderOf (s .args .n) (s .args .generators .now) (s .args .exchanges .now)
+order s = orderOf (s .args .n) (s .args .generators .now) (s .args .exchanges .now) (s .args .images .now)
 
 split-requires : tie.Need-split-requires
 split-requires c κs = search needs
@@ -56,8 +56,8 @@ returns c =
     let y = c .before .before .before .before .before .clear-bytes in
     let z = c .before .clear2 in
     let P =
-    split-sized (sym (x .kept .0 ∙ l .kept .1 .1 .1 .1 .0)) (sym (y .kept .0 ∙ l .kept .1 .1 .1 .1 .1 .0))
-    (sym (z .kept .0 ∙ l .kept .1 .1 .1 .1 .1 .1 .0)) (l .ensures) in
+    split-sized (sym (x .kept .0 ∙ l .kept .1 .1 .1 .1 .1 .0)) (sym (y .kept .0 ∙ l .kept .1 .1 .1 .1 .1 .1 .0))
+    (sym (z .kept .0 ∙ l .kept .1 .1 .1 .1 .1 .1 .1 .0)) (l .ensures) in
     let k = r .report in
     let R = reports-result (sym (k .kept .0)) (toZ-ofZ w64 (k .result) (record { sfits = k .ok })) (k .ensures) in
     split-cleared (order s) (s .args .vector .now) (x .last .0) (y .last .0) (z .last .0) (k .last .0) P R
@@ -83,12 +83,12 @@ returns-2 c =
     let s = r .before .before .before .before .before .before .before .before .before .before .before .before .before in
     let l = r .before .before .before .before .before .before .split in
     let P =
-    split-sized (sym (l .kept .1 .1 .1 .1 .0)) (sym (l .kept .1 .1 .1 .1 .1 .0)) (sym (l .kept .1 .1 .1 .1 .1 .1 .0))
+    split-sized (sym (l .kept .1 .1 .1 .1 .1 .0)) (sym (l .kept .1 .1 .1 .1 .1 .1 .0)) (sym (l .kept .1 .1 .1 .1 .1 .1 .1 .0))
     (l .ensures) in
     let k = r .report in
     let R = reports-result (sym (k .kept .0)) (toZ-ofZ w64 (k .result) (record { sfits = k .ok })) (k .ensures) in
-    split-kept (order s) (s .args .vector .now) (l .last .1 .1 .1 .1 .0) (l .last .1 .1 .1 .1 .1 .0)
-    (l .last .1 .1 .1 .1 .1 .1 .0) (k .last .0)
+    split-kept (order s) (s .args .vector .now) (l .last .1 .1 .1 .1 .1 .0) (l .last .1 .1 .1 .1 .1 .1 .0)
+    (l .last .1 .1 .1 .1 .1 .1 .1 .0) (k .last .0)
     P R (c .if1 .left) refl refl refl
 
 pub sukoreta-lent-split-spec : {M : Type 1} → statement M

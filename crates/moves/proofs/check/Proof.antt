@@ -10,7 +10,7 @@ use Rattle.moves.proofs.check.Tie as tie
 
 -- the order that was sent
 abbrev sent : tie.Start → Order
-sent s = orderOf (s .args .n) (s .args .generators .now) (s .args .exchanges .now)
+sent s = orderOf (s .args .n) (s .args .generators .now) (s .args .exchanges .now) (s .args .images .now)
 
 check-list-requires : tie.Need-check-list-requires
 check-list-requires c κs = search needs
@@ -31,7 +31,7 @@ returns : tie.Need-returns
 returns c =
     let f = c .before .before .before .before .before in
     let s = f .before .before .before .before in
-    check-passed-promise (sent s) _ _ _ _ _ (checks-is (f .check-list .ensures) (c .before .found .given .1)) (f .check-list .kept .1 .1 .1 .1 .1 .0)
+    check-passed-promise (sent s) _ _ _ _ _ (checks-is (f .check-list .ensures) (c .before .found .given .1)) (f .check-list .kept .1 .1 .1 .1 .1 .1 .0)
 
 same-length-2 : tie.Need-same-length-2
 same-length-2 c = search needs
@@ -41,7 +41,7 @@ returns-2 c =
     let k = c .before .before .before .before .before in
     let f = k .before .before .before .before in
     let s = f .before .before .before .before in
-    let size = f .check-list .kept .1 .1 .1 .1 .1 .0 in
+    let size = f .check-list .kept .1 .1 .1 .1 .1 .1 .0 in
     check-refused-promise (sent s) _ _ _ _ _ (checks-is (f .check-list .ensures) (k .found2 .given .1)) (c .before .before .clear-bytes .ensures ∙ ap (λ (m : ℕ). filled 0 m []) size) (c .before .before .clear-bytes .kept .0 ∙ size)
 
 pub check-spec : {M : Type 1} → statement M

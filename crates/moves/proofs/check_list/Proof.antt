@@ -21,7 +21,7 @@ use Rattle.moves.proofs.check_list.Tie as tie
 -- the order that was sent, and what came with it
 module _ (s : tie.Start) where
   abbrev sent : Order
-  sent = orderOf (s .args .n) (s .args .generators .now) (s .args .exchanges .now)
+  sent = orderOf (s .args .n) (s .args .generators .now) (s .args .exchanges .now) (s .args .images .now)
 
   abbrev size : ℕ
   size = length (s .args .group .now)
@@ -41,8 +41,8 @@ module _ (c : tie.After-admit) where
   came : c .admit .result ≡ admissionOf (fault start) (length (tableOf (sent start) (size start)))
   came = c .admit .ensures .answer ∙ ap (λ (f : Fault). admissionOf f (length (tableOf (sent start) (size start)))) fault-is
 
-  held-long : length (c .admit .last .1 .1 .1 .1 .0) ≡ size start
-  held-long = c .admit .kept .1 .1 .1 .1 .0
+  held-long : length (c .admit .last .1 .1 .1 .1 .1 .0) ≡ size start
+  held-long = c .admit .kept .1 .1 .1 .1 .1 .0
 
 -- none of them is met
 module _ (c : tie.After-admission2) where
@@ -58,10 +58,10 @@ module _ (c : tie.After-admission2) where
   admitted : Admitted (sent s) (size s) (broughtFits (sent s) (s .args .rows .now) (s .args .coefficients .now))
   admitted = admission-none (sent s) (size s) _ (passed .0)
 
-  held : t .admit .last .1 .1 .1 .1 .0 ≡ filled 0 (size s) (concat (tableOf (sent s) (size s)))
+  held : t .admit .last .1 .1 .1 .1 .1 .0 ≡ filled 0 (size s) (concat (tableOf (sent s) (size s)))
   held = t .admit .ensures .held (fault-is t ∙ passed .0)
 
-  grouped : Grouped (record { n = s .args .n; g = c .admission2 .given .0 .0 }) (s .args .generators .now) (t .admit .last .1 .1 .1 .1 .0)
+  grouped : Grouped (record { n = s .args .n; g = c .admission2 .given .0 .0 }) (s .args .generators .now) (t .admit .last .1 .1 .1 .1 .1 .0)
   grouped = held-grouped admitted held (held-long t) (passed .1)
 
   fits : Sized (s .args .n) (s .args .generators .now) (s .args .rows .now) (s .args .coefficients .now)

@@ -11,7 +11,7 @@ use Rattle.moves.proofs.list.Tie as tie
 
 -- the order that was sent
 abbrev sent : tie.Start → Order
-sent s = orderOf (s .args .n) (s .args .generators .now) (s .args .exchanges .now)
+sent s = orderOf (s .args .n) (s .args .generators .now) (s .args .exchanges .now) (s .args .images .now)
 
 make-list-requires : tie.Need-make-list-requires
 make-list-requires c κs = search needs
@@ -38,7 +38,7 @@ returns : tie.Need-returns
 returns c =
     let f = c .before .before .before .before .before .before in
     let s = f .before .before .before .before .before in
-    promise-accepted (sent s) _ _ _ _ _ _ (f .make-list .kept .1 .1 .1 .0) (f .make-list .kept .1 .1 .1 .1 .0) (finds-is (f .make-list .ensures) (c .before .found .given .1))
+    promise-accepted (sent s) _ _ _ _ _ _ (f .make-list .kept .1 .1 .1 .1 .0) (f .make-list .kept .1 .1 .1 .1 .1 .0) (finds-is (f .make-list .ensures) (c .before .found .given .1))
 
 same-length-3 : tie.Need-same-length-3
 same-length-3 c = search needs
@@ -52,7 +52,7 @@ returns-2 c =
     let f = k .before .before .before .before .before in
     let s = f .before .before .before .before .before in
     promise-refused (sent s) _ _ _ _ (found-refused (sent s) _ _ (finds-is (f .make-list .ensures) (k .found2 .given .1)))
-    (c .before .before .before .before .before .clear .ensures ∙ ap (λ (m : ℕ). filled (pos 0) m []) (f .make-list .kept .1 .1 .1 .0)) (c .before .before .clear-bytes .ensures ∙ ap (λ (m : ℕ). filled 0 m []) (f .make-list .kept .1 .1 .1 .1 .0))
+    (c .before .before .before .before .before .clear .ensures ∙ ap (λ (m : ℕ). filled (pos 0) m []) (f .make-list .kept .1 .1 .1 .1 .0)) (c .before .before .clear-bytes .ensures ∙ ap (λ (m : ℕ). filled 0 m []) (f .make-list .kept .1 .1 .1 .1 .1 .0))
 
 pub list-spec : {M : Type 1} → statement M
 list-spec =

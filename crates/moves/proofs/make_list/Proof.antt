@@ -19,7 +19,7 @@ use Rattle.moves.proofs.make_list.Tie as tie
 -- the order that was sent, and the sizes of the areas
 module _ (s : tie.Start) where
   abbrev sent : Order
-  sent = orderOf (s .args .n) (s .args .generators .now) (s .args .exchanges .now)
+  sent = orderOf (s .args .n) (s .args .generators .now) (s .args .exchanges .now) (s .args .images .now)
 
   abbrev listSize : ℕ
   listSize = length (s .args .list .now)
@@ -41,8 +41,8 @@ module _ (c : tie.After-admit) where
   came : c .admit .result ≡ admissionOf (fault start) (length (tableOf (sent start) (size start)))
   came = c .admit .ensures .answer ∙ ap (λ (f : Fault). admissionOf f (length (tableOf (sent start) (size start)))) fault-is
 
-  held-long : length (c .admit .last .1 .1 .1 .1 .0) ≡ size start
-  held-long = c .admit .kept .1 .1 .1 .1 .0
+  held-long : length (c .admit .last .1 .1 .1 .1 .1 .0) ≡ size start
+  held-long = c .admit .kept .1 .1 .1 .1 .1 .0
 
 -- none of them is met
 module _ (c : tie.After-admission2) where
@@ -55,7 +55,7 @@ module _ (c : tie.After-admission2) where
   admitted : Admitted (sent (start t)) (size (start t)) (wholeRows (start t .args .n) (listSize (start t)))
   admitted = admission-none (sent (start t)) (size (start t)) _ (passed .0)
 
-  held : t .admit .last .1 .1 .1 .1 .0 ≡ filled 0 (size (start t)) (concat (tableOf (sent (start t)) (size (start t))))
+  held : t .admit .last .1 .1 .1 .1 .1 .0 ≡ filled 0 (size (start t)) (concat (tableOf (sent (start t)) (size (start t))))
   held = t .admit .ensures .held (fault-is t ∙ passed .0)
 
 whole-rows-requires : tie.Need-whole-rows-requires

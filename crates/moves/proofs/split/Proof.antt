@@ -17,7 +17,7 @@ use Rattle.moves.proofs.split.Tie as tie
 -- the order that was sent, and the sizes of the areas
 module _ (s : tie.Start) where
   abbrev sent : Order
-  sent = orderOf (s .args .n) (s .args .generators .now) (s .args .exchanges .now)
+  sent = orderOf (s .args .n) (s .args .generators .now) (s .args .exchanges .now) (s .args .images .now)
 
   abbrev listSize : ℕ
   listSize = length (s .args .basis .now)
@@ -37,11 +37,11 @@ module _ (c : tie.After-list) where
   abbrev start : tie.Start
   start = c .before .before .before .before .before .before .before .before .before .before .before
 
-  long : length (c .list .last .1 .1 .1 .0) ≡ listSize start
-  long = c .list .kept .1 .1 .1 .0
+  long : length (c .list .last .1 .1 .1 .1 .0) ≡ listSize start
+  long = c .list .kept .1 .1 .1 .1 .0
 
-  wide : length (c .list .last .1 .1 .1 .1 .0) ≡ groupSize start
-  wide = c .list .kept .1 .1 .1 .1 .0
+  wide : length (c .list .last .1 .1 .1 .1 .1 .0) ≡ groupSize start
+  wide = c .list .kept .1 .1 .1 .1 .1 .0
 
   -- 5 and 6 are not met
   passed : firstFault (cellsFault (start .args .n) ∷ splitSizeFault (start .args .n) (start .args .vector .now) (piecesSize start) ∷ []) ≡ None
@@ -147,7 +147,7 @@ returns-3 c =
     let s = start (l k) in
     split-promise (sent s) (s .args .vector .now) (listSize s) (groupSize s) (piecesSize s)
     (ends-same
-    (sized-same (s .args .n) (λ (size : ℕ). partsOf (s .args .vector .now) size (accepted (listingIn (s .args .n) (numbers k) (l k .list .last .1 .1 .1 .0) (l k .list .last .1 .1 .1 .1 .0)))) (long (l k)) (wide (l k)) (deep (l k))
+    (sized-same (s .args .n) (λ (size : ℕ). partsOf (s .args .vector .now) size (accepted (listingIn (s .args .n) (numbers k) (l k .list .last .1 .1 .1 .1 .0) (l k .list .last .1 .1 .1 .1 .1 .0)))) (long (l k)) (wide (l k)) (deep (l k))
     ∙ ap (λ (o : Outcome Listing). endOf s (partsOf (s .args .vector .now) (piecesSize s) o)) (listed-same (l k .list .ensures) (long (l k)) (wide (l k)) (found k))
     ∙ ap (endOf s) (parts-sized (sent s) (s .args .vector .now) (listSize s) (groupSize s) (piecesSize s) (passed (l k))))
     (x .split-listed .ensures))

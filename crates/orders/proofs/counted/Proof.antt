@@ -1,4 +1,6 @@
 -- `counted` meets its contract. Assumes nothing.
+use native.Mathlib.Nat.{mul-le-mul}
+use native.Mathlib.Omega.{arith}
 use borrow.Author.Needs.{needs}
 use Rattle.orders.proofs.counted.Statement.{statement}
 use Rattle.orders.proofs.counted.Tie as tie
@@ -18,6 +20,12 @@ add-exchanges c = search needs
 one-if-requires-3 : tie.Need-one-if-requires-3
 one-if-requires-3 c κs = search needs
 
+add-images : tie.Need-add-images
+add-images c = let few = c .before .before .before .before .before .before .pre in omega (arith, mul-le-mul (few .exchanges-ok) (few .generators-ok))
+
+one-if-requires-4 : tie.Need-one-if-requires-4
+one-if-requires-4 c κs = search needs
+
 add-rows : tie.Need-add-rows
 add-rows c = search needs
 
@@ -33,5 +41,7 @@ counted-spec =
     one-if-requires-2
     add-exchanges
     one-if-requires-3
+    add-images
+    one-if-requires-4
     add-rows
     returns)

@@ -18,6 +18,9 @@ enum-told-3 c = search needs
 enum-told-4 : tie.Need-enum-told-4
 enum-told-4 c = search needs
 
+may-follow-images-requires : tie.Need-may-follow-images-requires
+may-follow-images-requires c κs = search needs
+
 enum-told-5 : tie.Need-enum-told-5
 enum-told-5 c = search needs
 
@@ -26,6 +29,9 @@ enum-told-6 c = search needs
 
 enum-told-7 : tie.Need-enum-told-7
 enum-told-7 c = search needs
+
+enum-told-8 : tie.Need-enum-told-8
+enum-told-8 c = search needs
 
 returns : tie.Need-returns
 returns c = cc
@@ -46,7 +52,10 @@ returns-6 : tie.Need-returns-6
 returns-6 c = cc
 
 returns-7 : tie.Need-returns-7
-returns-7 c = search needs
+returns-7 c = cc
+
+returns-8 : tie.Need-returns-8
+returns-8 c = search needs
 
 pub may-stand-spec : {M : Type 1} → statement M
 may-stand-spec =
@@ -57,13 +66,16 @@ may-stand-spec =
     enum-told-2
     enum-told-3
     enum-told-4
+    may-follow-images-requires
     enum-told-5
     enum-told-6
     enum-told-7
+    enum-told-8
     returns
     returns-2
     returns-3
     returns-4
     returns-5
     returns-6
-    returns-7)
+    returns-7
+    returns-8)

@@ -39,6 +39,9 @@ enum-told-4 c = search needs
 enum-told-5 : tie.Need-enum-told-5
 enum-told-5 c = search needs
 
+enum-told-6 : tie.Need-enum-told-6
+enum-told-6 c = search needs
+
 returns : tie.Need-returns
 returns c = cc
 
@@ -65,6 +68,10 @@ returns-7 : tie.Need-returns-7
 unfolding passed
 returns-7 c = cc
 
+returns-8 : tie.Need-returns-8
+unfolding passed
+returns-8 c = cc
+
 pub pass-spec : {M : Type 1} → statement M
 pass-spec =
     tie.close
@@ -78,10 +85,12 @@ pass-spec =
     enum-told-3
     enum-told-4
     enum-told-5
+    enum-told-6
     returns
     returns-2
     returns-3
     returns-4
     returns-5
     returns-6
-    returns-7)
+    returns-7
+    returns-8)

@@ -8,14 +8,11 @@ use Rattle.samples.proofs.check.Tie as tie
 mul-table : tie.Need-mul-table
 mul-table c = search needs
 
-slice-aggregate-check : tie.Need-slice-aggregate-check
-slice-aggregate-check c = search needs
-
 array-borrow-prefix-group : tie.Need-array-borrow-prefix-group
 array-borrow-prefix-group c = search needs
 
-slice-aggregate-check-2 : tie.Need-slice-aggregate-check-2
-slice-aggregate-check-2 c =
+slice-aggregate-check : tie.Need-slice-aggregate-check
+slice-aggregate-check c =
     part-long groupLimit cells (c .before .before .before .args .n) 0 (c .before .before .before .pre)
 
 check-requires : tie.Need-check-requires
@@ -32,9 +29,8 @@ check-spec =
     tie.close
     (tie.spec
     mul-table
-    slice-aggregate-check
     array-borrow-prefix-group
-    slice-aggregate-check-2
+    slice-aggregate-check
     check-requires
     show-requires
     returns)

@@ -12,25 +12,22 @@ mul-rows c = search needs
 mul-table : tie.Need-mul-table
 mul-table c = search needs
 
-slice-aggregate-split : tie.Need-slice-aggregate-split
-slice-aggregate-split c = search needs
-
 array-borrow-prefix-list : tie.Need-array-borrow-prefix-list
 array-borrow-prefix-list c = search needs
 
-slice-aggregate-split-2 : tie.Need-slice-aggregate-split-2
-slice-aggregate-split-2 c =
+slice-aggregate-split : tie.Need-slice-aggregate-split
+slice-aggregate-split c =
     part-long listLimit cells (c .before .before .before .args .n) (pos 0) (c .before .before .before .pre)
 
 array-borrow-prefix-group : tie.Need-array-borrow-prefix-group
 array-borrow-prefix-group c = search needs
 
-slice-aggregate-split-3 : tie.Need-slice-aggregate-split-3
-slice-aggregate-split-3 c =
+slice-aggregate-split-2 : tie.Need-slice-aggregate-split-2
+slice-aggregate-split-2 c =
     part-long groupLimit cells (c .before .before .before .before .args .n) 0 (c .before .before .before .before .pre)
 
-slice-aggregate-split-4 : tie.Need-slice-aggregate-split-4
-slice-aggregate-split-4 c = search needs
+slice-aggregate-split-3 : tie.Need-slice-aggregate-split-3
+slice-aggregate-split-3 c = search needs
 
 split-requires : tie.Need-split-requires
 split-requires c κs = search needs
@@ -50,12 +47,11 @@ split-spec =
     (tie.spec
     mul-rows
     mul-table
-    slice-aggregate-split
     array-borrow-prefix-list
-    slice-aggregate-split-2
+    slice-aggregate-split
     array-borrow-prefix-group
+    slice-aggregate-split-2
     slice-aggregate-split-3
-    slice-aggregate-split-4
     split-requires
     slice-aggregate-show
     show-requires

@@ -32,7 +32,7 @@ module _ (s : tie.Start) where
 -- the rows that are lent
 module _ (c : tie.After-read-rows) where
   abbrev start : tie.Start
-  start = c .before .before .before .before .before .before .before .before
+  start = c .before .before .before .before .before .before .before .before .before
 
   rows-lent : start .args .c .rows * start .args .c .cells ≤ length (c .read-rows .last .1 .1 .0)
   rows-lent = omega (arith, rows-few start, c .read-rows .kept .1 .1 .0)
@@ -48,7 +48,7 @@ module _ (c : tie.After-read-rows) where
 -- the coefficients that are lent
 module _ (c : tie.After-read-coefficients) where
   abbrev begin : tie.Start
-  begin = c .before .before .before .before .before .before .before .before .before .before .before
+  begin = c .before .before .before .before .before .before .before .before .before .before .before .before
 
   coefficients-lent : begin .args .c .rows * begin .args .c .generators ≤ length (c .read-coefficients .last .1 .1 .0)
   coefficients-lent = omega (arith, coefficients-few begin, c .read-coefficients .kept .1 .1 .0)
@@ -68,21 +68,24 @@ mul-m c = search needs
 mul-e : tie.Need-mul-e
 mul-e c = search needs
 
+mul-i : tie.Need-mul-i
+mul-i c = search needs
+
 mul-k : tie.Need-mul-k
-mul-k c = omega (arith, rows-few (c .before .before .before .before .before))
+mul-k c = omega (arith, rows-few (c .before .before .before .before .before .before))
 
 mul-q : tie.Need-mul-q
-mul-q c = omega (arith, coefficients-few (c .before .before .before .before .before .before))
+mul-q c = omega (arith, coefficients-few (c .before .before .before .before .before .before .before))
 
 mul-g : tie.Need-mul-g
-mul-g c = omega (arith, few (c .before .before .before .before .before .before))
+mul-g c = omega (arith, few (c .before .before .before .before .before .before .before))
 
 slice-aggregate-read-rows : tie.Need-slice-aggregate-read-rows
 slice-aggregate-read-rows c = search needs
 
 read-rows-requires : tie.Need-read-rows-requires
 read-rows-requires c κs =
-    let s = c .before .before .before .before .before .before .before in
+    let s = c .before .before .before .before .before .before .before .before in
     (found s .readable, omega (arith, rows-count CheckService (s .args .order .now) (s .args .c) (found s), rows-few s))
 
 slice-aggregate-read-coefficients : tie.Need-slice-aggregate-read-coefficients
@@ -90,54 +93,59 @@ slice-aggregate-read-coefficients c = search needs
 
 read-coefficients-requires : tie.Need-read-coefficients-requires
 read-coefficients-requires c κs =
-    let s = c .before .before .before .before .before .before .before .before .before .before in
+    let s = c .before .before .before .before .before .before .before .before .before .before .before in
     (found s .readable, omega (arith, coefficients-count CheckService (s .args .order .now) (s .args .c) (found s), coefficients-few s))
 
 slice-aggregate-check : tie.Need-slice-aggregate-check
 slice-aggregate-check c =
     sym
-    (length-take-le _ _ (c .before .before .before .before .before .before .before .before .before .before .before .before .before .pre .1 .generatorsFit))
+    (length-take-le _ _ (c .before .before .before .before .before .before .before .before .before .before .before .before .before .before .pre .1 .generatorsFit))
 
 slice-aggregate-check-2 : tie.Need-slice-aggregate-check-2
 slice-aggregate-check-2 c =
     sym
-    (length-take-le _ _ (c .before .before .before .before .before .before .before .before .before .before .before .before .before .before .pre .1 .exchangesFit))
-
-array-share-prefix-rows : tie.Need-array-share-prefix-rows
-array-share-prefix-rows c = rows-lent (c .before .before .before .before .before .before)
+    (length-take-le _ _ (c .before .before .before .before .before .before .before .before .before .before .before .before .before .before .before .pre .1 .exchangesFit))
 
 slice-aggregate-check-3 : tie.Need-slice-aggregate-check-3
 slice-aggregate-check-3 c =
-    sym (length-take-le _ _ (rows-lent (c .before .before .before .before .before .before .before)))
+    sym
+    (length-take-le _ _ (c .before .before .before .before .before .before .before .before .before .before .before .before .before .before .before .before .pre .1 .imagesFit))
 
-array-share-prefix-coefficients : tie.Need-array-share-prefix-coefficients
-array-share-prefix-coefficients c = coefficients-lent (c .before .before .before .before)
+array-share-prefix-rows : tie.Need-array-share-prefix-rows
+array-share-prefix-rows c = rows-lent (c .before .before .before .before .before .before .before)
 
 slice-aggregate-check-4 : tie.Need-slice-aggregate-check-4
-slice-aggregate-check-4 c = sym (length-take-le _ _ (coefficients-lent (c .before .before .before .before .before)))
+slice-aggregate-check-4 c =
+    sym (length-take-le _ _ (rows-lent (c .before .before .before .before .before .before .before .before)))
+
+array-share-prefix-coefficients : tie.Need-array-share-prefix-coefficients
+array-share-prefix-coefficients c = coefficients-lent (c .before .before .before .before .before)
+
+slice-aggregate-check-5 : tie.Need-slice-aggregate-check-5
+slice-aggregate-check-5 c = sym (length-take-le _ _ (coefficients-lent (c .before .before .before .before .before .before)))
 
 array-borrow-prefix-group : tie.Need-array-borrow-prefix-group
 array-borrow-prefix-group c =
     omega
-    (arith, few (c .before .before .before .before .before .before .before .before .before .before .before .before .before .before .before .before))
+    (arith, few (c .before .before .before .before .before .before .before .before .before .before .before .before .before .before .before .before .before .before))
 
-slice-aggregate-check-5 : tie.Need-slice-aggregate-check-5
-slice-aggregate-check-5 c =
+slice-aggregate-check-6 : tie.Need-slice-aggregate-check-6
+slice-aggregate-check-6 c =
     sym
-    (length-take-le _ _ (omega (arith, few (c .before .before .before .before .before .before .before .before .before .before .before .before .before .before .before .before .before))))
+    (length-take-le _ _ (omega (arith, few (c .before .before .before .before .before .before .before .before .before .before .before .before .before .before .before .before .before .before .before))))
 
 check-requires : tie.Need-check-requires
 check-requires c κs = search needs
 
 returns : tie.Need-returns
 returns c =
-    let r = c .before .before .before .before .before .before .before .before .before .before .before in
+    let r = c .before .before .before .before .before .before .before .before .before .before .before .before in
     let s = start r in
     let a = s .args in
     check-says (a .order .now) (a .c) (c .before .check .ensures)
     (order-read (a .order .now) (a .c) (s .pre .1))
     (rows-read r)
-    (coefficients-read (c .before .before .before .before .before .before .before .before))
+    (coefficients-read (c .before .before .before .before .before .before .before .before .before))
     (length-take-le _ _ (omega (arith, few s)))
 
 pub check-order-spec : {M : Type 1} → statement M
@@ -146,6 +154,7 @@ check-order-spec =
     (tie.spec
     mul-m
     mul-e
+    mul-i
     mul-k
     mul-q
     mul-g
@@ -155,11 +164,12 @@ check-order-spec =
     read-coefficients-requires
     slice-aggregate-check
     slice-aggregate-check-2
-    array-share-prefix-rows
     slice-aggregate-check-3
-    array-share-prefix-coefficients
+    array-share-prefix-rows
     slice-aggregate-check-4
-    array-borrow-prefix-group
+    array-share-prefix-coefficients
     slice-aggregate-check-5
+    array-borrow-prefix-group
+    slice-aggregate-check-6
     check-requires
     returns)

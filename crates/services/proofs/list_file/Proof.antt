@@ -11,16 +11,22 @@ slice-aggregate-read-order c = search needs
 slice-aggregate-read-order-2 : tie.Need-slice-aggregate-read-order-2
 slice-aggregate-read-order-2 c = search needs
 
+slice-aggregate-read-order-3 : tie.Need-slice-aggregate-read-order-3
+slice-aggregate-read-order-3 c = search needs
+
 read-order-requires : tie.Need-read-order-requires
 read-order-requires c κs =
-    let s = c .before .before .before in
-    order-fits ListService (s .args .order .now) (s .args .c) (s .pre .0) (search needs) (search needs)
+    let s = c .before .before .before .before in
+    order-fits ListService (s .args .order .now) (s .args .c) (s .pre .0) (search needs) (search needs) (search needs)
 
 slice-aggregate-list-order : tie.Need-slice-aggregate-list-order
 slice-aggregate-list-order c = search needs
 
 slice-aggregate-list-order-2 : tie.Need-slice-aggregate-list-order-2
 slice-aggregate-list-order-2 c = search needs
+
+slice-aggregate-list-order-3 : tie.Need-slice-aggregate-list-order-3
+slice-aggregate-list-order-3 c = search needs
 
 list-order-requires : tie.Need-list-order-requires
 list-order-requires c κs = search needs
@@ -37,9 +43,11 @@ list-file-spec =
     (tie.spec
     slice-aggregate-read-order
     slice-aggregate-read-order-2
+    slice-aggregate-read-order-3
     read-order-requires
     slice-aggregate-list-order
     slice-aggregate-list-order-2
+    slice-aggregate-list-order-3
     list-order-requires
     same-length
     returns)

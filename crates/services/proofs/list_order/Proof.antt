@@ -27,34 +27,41 @@ mul-m c = search needs
 mul-e : tie.Need-mul-e
 mul-e c = search needs
 
+mul-i : tie.Need-mul-i
+mul-i c = search needs
+
 mul-l : tie.Need-mul-l
-mul-l c = omega (arith, limited (c .before .before .before .before) .cells-ok)
+mul-l c = omega (arith, limited (c .before .before .before .before .before) .cells-ok)
 
 mul-g : tie.Need-mul-g
-mul-g c = omega (arith, limited (c .before .before .before .before) .cells-ok)
+mul-g c = omega (arith, limited (c .before .before .before .before .before) .cells-ok)
 
 slice-aggregate-list : tie.Need-slice-aggregate-list
-slice-aggregate-list c = sym (length-take-le _ _ (c .before .before .before .before .before .pre .1 .0 .generatorsFit))
+slice-aggregate-list c = sym (length-take-le _ _ (c .before .before .before .before .before .before .pre .1 .0 .generatorsFit))
 
 slice-aggregate-list-2 : tie.Need-slice-aggregate-list-2
 slice-aggregate-list-2 c =
-    sym (length-take-le _ _ (c .before .before .before .before .before .before .pre .1 .0 .exchangesFit))
-
-slice-relend-prefix-list : tie.Need-slice-relend-prefix-list
-slice-relend-prefix-list c = list-fits (c .before .before .before .before .before .before)
+    sym (length-take-le _ _ (c .before .before .before .before .before .before .before .pre .1 .0 .exchangesFit))
 
 slice-aggregate-list-3 : tie.Need-slice-aggregate-list-3
 slice-aggregate-list-3 c =
-    sym (length-take-le _ _ (list-fits (c .before .before .before .before .before .before .before)))
+    sym (length-take-le _ _ (c .before .before .before .before .before .before .before .before .pre .1 .0 .imagesFit))
 
-array-borrow-prefix-group : tie.Need-array-borrow-prefix-group
-array-borrow-prefix-group c =
-    omega (arith, limited (c .before .before .before .before .before .before .before) .cells-ok)
+slice-relend-prefix-list : tie.Need-slice-relend-prefix-list
+slice-relend-prefix-list c = list-fits (c .before .before .before .before .before .before .before .before)
 
 slice-aggregate-list-4 : tie.Need-slice-aggregate-list-4
 slice-aggregate-list-4 c =
+    sym (length-take-le _ _ (list-fits (c .before .before .before .before .before .before .before .before .before)))
+
+array-borrow-prefix-group : tie.Need-array-borrow-prefix-group
+array-borrow-prefix-group c =
+    omega (arith, limited (c .before .before .before .before .before .before .before .before .before) .cells-ok)
+
+slice-aggregate-list-5 : tie.Need-slice-aggregate-list-5
+slice-aggregate-list-5 c =
     sym
-    (length-take-le _ _ (omega (arith, limited (c .before .before .before .before .before .before .before .before) .cells-ok)))
+    (length-take-le _ _ (omega (arith, limited (c .before .before .before .before .before .before .before .before .before .before) .cells-ok)))
 
 list-requires : tie.Need-list-requires
 list-requires c κs = search needs
@@ -64,7 +71,7 @@ same-length c = search needs
 
 returns : tie.Need-returns
 returns c =
-    let s = c .before .before .before .before .before .before .before .before .before .before .before in
+    let s = c .before .before .before .before .before .before .before .before .before .before .before .before .before in
     let a = s .args in
     list-serves (a .order .now) (a .c) _ (limited s .cells-ok) (c .before .before .list .ensures)
     (order-read (a .order .now) (a .c) (s .pre .1 .0))
@@ -77,14 +84,16 @@ list-order-spec =
     (tie.spec
     mul-m
     mul-e
+    mul-i
     mul-l
     mul-g
     slice-aggregate-list
     slice-aggregate-list-2
-    slice-relend-prefix-list
     slice-aggregate-list-3
-    array-borrow-prefix-group
+    slice-relend-prefix-list
     slice-aggregate-list-4
+    array-borrow-prefix-group
+    slice-aggregate-list-5
     list-requires
     same-length
     returns)

@@ -11,16 +11,22 @@ slice-aggregate-read-order c = search needs
 slice-aggregate-read-order-2 : tie.Need-slice-aggregate-read-order-2
 slice-aggregate-read-order-2 c = search needs
 
+slice-aggregate-read-order-3 : tie.Need-slice-aggregate-read-order-3
+slice-aggregate-read-order-3 c = search needs
+
 read-order-requires : tie.Need-read-order-requires
 read-order-requires c κs =
-    let s = c .before .before .before in
-    order-fits SplitService (s .args .order .now) (s .args .c) (s .pre .0) (search needs) (search needs)
+    let s = c .before .before .before .before in
+    order-fits SplitService (s .args .order .now) (s .args .c) (s .pre .0) (search needs) (search needs) (search needs)
 
 slice-aggregate-split-order : tie.Need-slice-aggregate-split-order
 slice-aggregate-split-order c = search needs
 
 slice-aggregate-split-order-2 : tie.Need-slice-aggregate-split-order-2
 slice-aggregate-split-order-2 c = search needs
+
+slice-aggregate-split-order-3 : tie.Need-slice-aggregate-split-order-3
+slice-aggregate-split-order-3 c = search needs
 
 split-order-requires : tie.Need-split-order-requires
 split-order-requires c κs = search needs
@@ -37,9 +43,11 @@ split-file-spec =
     (tie.spec
     slice-aggregate-read-order
     slice-aggregate-read-order-2
+    slice-aggregate-read-order-3
     read-order-requires
     slice-aggregate-split-order
     slice-aggregate-split-order-2
+    slice-aggregate-split-order-3
     split-order-requires
     same-length
     returns)

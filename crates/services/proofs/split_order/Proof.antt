@@ -25,7 +25,7 @@ module _ (s : tie.Start) where
 -- the vector that is lent
 module _ (c : tie.After-read-vector) where
   abbrev start : tie.Start
-  start = c .before .before .before .before .before .before
+  start = c .before .before .before .before .before .before .before
 
   vector-lent : start .args .c .cells ≤ length (c .read-vector .last .1 .1 .0)
   vector-lent = omega (arith, few start, c .read-vector .kept .1 .1 .0)
@@ -44,53 +44,61 @@ mul-m c = search needs
 mul-e : tie.Need-mul-e
 mul-e c = search needs
 
+mul-i : tie.Need-mul-i
+mul-i c = search needs
+
 mul-l : tie.Need-mul-l
-mul-l c = omega (arith, few (c .before .before .before .before))
+mul-l c = omega (arith, few (c .before .before .before .before .before))
 
 mul-g : tie.Need-mul-g
-mul-g c = omega (arith, few (c .before .before .before .before))
+mul-g c = omega (arith, few (c .before .before .before .before .before))
 
 slice-aggregate-read-vector : tie.Need-slice-aggregate-read-vector
 slice-aggregate-read-vector c = search needs
 
 read-vector-requires : tie.Need-read-vector-requires
 read-vector-requires c κs =
-    let s = c .before .before .before .before .before in
+    let s = c .before .before .before .before .before .before in
     (found s .readable, omega (arith, vector-count (s .args .order .now) (s .args .c) (found s), few s))
 
 slice-aggregate-split : tie.Need-slice-aggregate-split
 slice-aggregate-split c =
     sym
-    (length-take-le _ _ (c .before .before .before .before .before .before .before .before .pre .1 .0 .generatorsFit))
+    (length-take-le _ _ (c .before .before .before .before .before .before .before .before .before .pre .1 .0 .generatorsFit))
 
 slice-aggregate-split-2 : tie.Need-slice-aggregate-split-2
 slice-aggregate-split-2 c =
     sym
-    (length-take-le _ _ (c .before .before .before .before .before .before .before .before .before .pre .1 .0 .exchangesFit))
-
-array-share-prefix-vector : tie.Need-array-share-prefix-vector
-array-share-prefix-vector c = vector-lent (c .before .before .before)
+    (length-take-le _ _ (c .before .before .before .before .before .before .before .before .before .before .pre .1 .0 .exchangesFit))
 
 slice-aggregate-split-3 : tie.Need-slice-aggregate-split-3
-slice-aggregate-split-3 c = sym (length-take-le _ _ (vector-lent (c .before .before .before .before)))
+slice-aggregate-split-3 c =
+    sym
+    (length-take-le _ _ (c .before .before .before .before .before .before .before .before .before .before .before .pre .1 .0 .imagesFit))
+
+array-share-prefix-vector : tie.Need-array-share-prefix-vector
+array-share-prefix-vector c = vector-lent (c .before .before .before .before)
+
+slice-aggregate-split-4 : tie.Need-slice-aggregate-split-4
+slice-aggregate-split-4 c = sym (length-take-le _ _ (vector-lent (c .before .before .before .before .before)))
 
 array-borrow-prefix-list : tie.Need-array-borrow-prefix-list
 array-borrow-prefix-list c =
-    omega (arith, few (c .before .before .before .before .before .before .before .before .before .before))
-
-slice-aggregate-split-4 : tie.Need-slice-aggregate-split-4
-slice-aggregate-split-4 c =
-    sym
-    (length-take-le _ _ (omega (arith, few (c .before .before .before .before .before .before .before .before .before .before .before))))
-
-array-borrow-prefix-group : tie.Need-array-borrow-prefix-group
-array-borrow-prefix-group c =
-    omega (arith, few (c .before .before .before .before .before .before .before .before .before .before .before))
+    omega (arith, few (c .before .before .before .before .before .before .before .before .before .before .before .before))
 
 slice-aggregate-split-5 : tie.Need-slice-aggregate-split-5
 slice-aggregate-split-5 c =
     sym
-    (length-take-le _ _ (omega (arith, few (c .before .before .before .before .before .before .before .before .before .before .before .before))))
+    (length-take-le _ _ (omega (arith, few (c .before .before .before .before .before .before .before .before .before .before .before .before .before))))
+
+array-borrow-prefix-group : tie.Need-array-borrow-prefix-group
+array-borrow-prefix-group c =
+    omega (arith, few (c .before .before .before .before .before .before .before .before .before .before .before .before .before))
+
+slice-aggregate-split-6 : tie.Need-slice-aggregate-split-6
+slice-aggregate-split-6 c =
+    sym
+    (length-take-le _ _ (omega (arith, few (c .before .before .before .before .before .before .before .before .before .before .before .before .before .before))))
 
 split-requires : tie.Need-split-requires
 split-requires c κs = search needs
@@ -100,7 +108,7 @@ same-length c = search needs
 
 returns : tie.Need-returns
 returns c =
-    let v = c .before .before .before .before .before .before .before .before .before .before .before in
+    let v = c .before .before .before .before .before .before .before .before .before .before .before .before in
     let s = start v in
     let a = s .args in
     split-serves (a .order .now) (a .c) (c .before .before .before .split .ensures)
@@ -116,18 +124,20 @@ split-order-spec =
     (tie.spec
     mul-m
     mul-e
+    mul-i
     mul-l
     mul-g
     slice-aggregate-read-vector
     read-vector-requires
     slice-aggregate-split
     slice-aggregate-split-2
-    array-share-prefix-vector
     slice-aggregate-split-3
-    array-borrow-prefix-list
+    array-share-prefix-vector
     slice-aggregate-split-4
-    array-borrow-prefix-group
+    array-borrow-prefix-list
     slice-aggregate-split-5
+    array-borrow-prefix-group
+    slice-aggregate-split-6
     split-requires
     same-length
     returns)

@@ -1,108 +1,22 @@
--- `read_coefficients` meets its contract. The invariant: the numbers of the commands before `at` are in the area. Assumes nothing.
-use mathlib.Core.Path.{_≡_, sym, subst⁻¹, _∙_}
-use Prim.Native.Nat.{ℕ, _-_}
-use native.Mathlib.Omega.{arith}
-use lib.ListN.{length}
+-- `read_coefficients` meets its contract. Assumes nothing.
+use mathlib.Core.Path.{refl}
+use mathlib.Core.Logic.{inr}
 use borrow.Author.Needs.{needs}
-use Rattle.commands.specs.declared.Reading.the-variants.{Known}
-use Rattle.commands.specs.Commands.{commandAt, coefficientsCode}
-use Rattle.commands.proofs.Known.{known-at}
-use Rattle.orders.specs.Operands.{coefficientsIn, signedNumbers}
-use Rattle.orders.proofs.Walks.{Walking, holds-coefficients, walk-start, walk-inside, walk-room, walk-turn, walk-end, walk-length}
+use Rattle.orders.specs.Operands.{coefficientsIn}
+use Rattle.orders.proofs.Walks.{holds-coefficients}
 use Rattle.orders.proofs.operands.read_coefficients.Statement.{statement}
 use Rattle.orders.proofs.operands.read_coefficients.Tie as tie
 
-abbrev Inv-loop : tie.InvT-loop
-Inv-loop order c area₀ at₀ filled₀ area at filled = Walking coefficientsCode (signedNumbers 4 (c .generators)) order c area₀ area at filled
-
-abbrev μ-loop : tie.MeasureT-loop
-μ-loop order c area₀ at₀ filled₀ area at filled = length order - at
-
-loop-holds : tie.Need-loop-holds Inv-loop μ-loop
-loop-holds c = let s = c .before in let a = s .args in walk-start coefficientsCode (signedNumbers 4 ((a .c) .generators)) (a .order .now) (a .c) (a .area .now) (s .pre .0)
-
-command-at-requires : tie.Need-command-at-requires Inv-loop μ-loop
-command-at-requires c κs = search needs
-
-enum-known-reading : tie.Need-enum-known-reading Inv-loop μ-loop
-enum-known-reading c = search needs
-
-same-length : tie.Need-same-length Inv-loop μ-loop
+returns : tie.Need-returns
 unfolding coefficientsIn
-same-length c =
-    let s = c .before .before .before .before in
-    let a = s .args in
-    let l = c .before .before .loop in
-    walk-length coefficientsCode (signedNumbers 4 ((a .c) .generators)) (a .order .now) (a .c) (a .area .now) (l .area) (l .at) (l .filled) (l .inv) (s .pre .1)
+returns c = search needs
 
-returns : tie.Need-returns Inv-loop μ-loop
+read-wide-requires : tie.Need-read-wide-requires
 unfolding coefficientsIn
-returns c =
-    let a = c .before .before .before .before .args in
-    let l = c .before .before .loop in
-    walk-end coefficientsCode (signedNumbers 4 ((a .c) .generators)) (a .order .now) (a .c) (a .area .now) (l .area) (l .at) (l .filled) (l .inv) (c .before .command-at .ensures) (c .match .keys2)
+read-wide-requires c κs = let s = c .before .before in (s .pre .0, ((inr refl, holds-coefficients (s .args .c)), s .pre .1))
 
--- the command that was read
-module _ (c : tie.After-reading Inv-loop μ-loop) where
-  abbrev start : tie.Start Inv-loop μ-loop
-  start = c .before .before .before .before .before
-
-  known : commandAt (start .args .order .now) (c .before .before .before .loop .at) ≡ Known (c .reading .given .0 .0)
-  known = sym (c .before .before .command-at .ensures) ∙ c .reading .given .1
-
-take-wide-requires : tie.Need-take-wide-requires Inv-loop μ-loop
-unfolding coefficientsIn
-take-wide-requires c κs =
-    let r = c .before .before in
-    let s = start r in
-    let a = s .args in
-    let l = r .before .before .before .loop in
-    let x = r .reading .given .0 .0 in
-    let fits = walk-inside coefficientsCode (signedNumbers 4 ((a .c) .generators)) (a .order .now) (a .c) (a .area .now) (l .area) (l .at) (l .filled) x (known r) (l .inv) in
-    let room = walk-room coefficientsCode (signedNumbers 4 ((a .c) .generators)) (a .order .now) (a .c) (a .area .now) (l .area) (l .at) (l .filled) x (known r) (l .inv) (s .pre .1) in
-    ((λ e. omega (arith, holds-coefficients (a .c) x e)), room)
-
-behind-requires : tie.Need-behind-requires Inv-loop μ-loop
-behind-requires c κs =
-    let r = c .before .before .before .before in
-    let s = start r in
-    let few = s .pre .0 .limited .few in
-    let o = known-at (s .args .order .now) (r .before .before .before .loop .at) (r .reading .given .0 .0) (known r) in
-    ((few .cells-ok, few .generators-ok), omega arith)
-
-loop-less : tie.Need-loop-less Inv-loop μ-loop
-loop-less c =
-    let r = c .before .before .before .before .before in
-    let a = start r .args in
-    let l = r .before .before .before .loop in
-    let x = r .reading .given .0 .0 in
-    let fits = walk-inside coefficientsCode (signedNumbers 4 ((a .c) .generators)) (a .order .now) (a .c) (a .area .now) (l .area) (l .at) (l .filled) x (known r) (l .inv) in
-    let o = known-at (a .order .now) (l .at) x (known r) in
-    omega (arith, c .behind .ensures)
-
-loop-again : tie.Need-loop-again Inv-loop μ-loop
-unfolding coefficientsIn
-loop-again c =
-    let r = c .before .before .before .before .before in
-    let s = start r in
-    let a = s .args in
-    let l = r .before .before .before .loop in
-    let t = c .before .before .take-wide in
-    subst⁻¹ (λ (at : ℕ). Walking coefficientsCode (signedNumbers 4 ((a .c) .generators)) (a .order .now) (a .c) (a .area .now) (t .last .1 .1 .1 .1 .0) at (t .result)) (c .behind .ensures)
-    (walk-turn coefficientsCode (signedNumbers 4 ((a .c) .generators)) (a .order .now) (a .c) (a .area .now) (l .area) (l .at) (l .filled) (r .reading .given .0 .0) (known r) _ (t .result) (l .inv) (t .ensures) (s .pre .1))
+same-length : tie.Need-same-length
+same-length c = search needs
 
 pub read-coefficients-spec : {M : Type 1} → statement M
-read-coefficients-spec =
-    tie.close
-    (tie.spec
-    Inv-loop
-    μ-loop
-    loop-holds
-    command-at-requires
-    enum-known-reading
-    same-length
-    returns
-    take-wide-requires
-    behind-requires
-    loop-less
-    loop-again)
+read-coefficients-spec = tie.close (tie.spec read-wide-requires same-length returns)
