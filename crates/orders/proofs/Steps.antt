@@ -1,6 +1,6 @@
 -- What holds of each command of the scan (Specification 8.3): where it goes on, where the order is accepted, where it is refused. Assumes nothing.
 use mathlib.Core.Path.{_≡_, refl}
-use mathlib.Core.Bool.{Bool, true, false, _&&_, _||_}
+use mathlib.Core.Bool.{Bool, false, _&&_, _||_}
 use mathlib.Core.List.{List}
 use Prim.Native.Nat.{ℕ, _+_, _*_, _≤_, _<_}
 use native.Mathlib.Nat.{le-trans, mul-le-mul}
@@ -10,7 +10,7 @@ use lib.ListN.{length, drop}
 use borrow.Author.Tests.{leb-true, lt-ltb, ltb-true, ltb-false}
 use Rattle.definitions.specs.Limits.{cells, generatorLimit, exchangeLimit, listLimit, bareLimit}
 use Rattle.theory.proofs.Counting.{if-cases}
-use Rattle.theory.proofs.Tests.{and-true-right, clash, or-false-left, or-false-right}
+use Rattle.theory.proofs.Tests.{and-false-right, and-true-right, or-false-left, or-false-right}
 use Rattle.commands.specs.declared.Command.{Command}
 use Rattle.commands.specs.declared.Command.the-variants.{End}
 use Rattle.commands.specs.declared.Reading.{Reading}
@@ -110,11 +110,6 @@ still-due : (c : Counts) (x : Command) → c .images + oneIf x imageCode ≤ c .
 still-due c x h = le-trans h (mul-le-mul (omega arith) (omega arith))
 
 -- ---- a whole command that may stand
-
--- a test that fails beside one that holds
-and-false-right : (a b : Bool) → (a && b) ≡ false → a ≡ true → b ≡ false
-and-false-right true b e h = e
-and-false-right false b e h = clash h refl
 
 -- what the test of 6 says of the counts with a command, of so many cells and IMAGEs
 few-of : (c : Counts) → tooMany c ≡ false → c .cells ≤ cells → c .images ≤ c .exchanges * c .generators → Few c

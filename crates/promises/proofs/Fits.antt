@@ -1,7 +1,7 @@
 -- What an accepted file lends has the right sizes (Specification 7.3): on it no lent call meets 6 by its order.
 -- Assumes nothing.
 use mathlib.Core.Path.{_≡_, refl, sym, ap, ap₂, _∙_}
-use mathlib.Core.Bool.{Bool, true, false, not, _&&_, _||_}
+use mathlib.Core.Bool.{Bool, true, not, _&&_, _||_, or-true}
 use mathlib.Core.List.{List}
 use Prim.Native.Nat.{ℕ, _*_, _/_, _%_, _≤_}
 use native.Mathlib.Decide.{decLe}
@@ -30,10 +30,6 @@ rows-fit limit width count size some e few =
     let rest : size % width ≡ 0 = ap (λ (k : ℕ). k % width) e ∙ mul-mod-left count width in
     let rows : size / width ≡ count = ap (λ (k : ℕ). k / width) e ∙ mul-div-cancel count some in
     (ap₂ _&&_ (eq-eqb (size % width) 0 rest) (le-leb (size / width) limit (omega (arith, rows))), rows)
-
-or-true : (a : Bool) → (a || true) ≡ true
-or-true true = refl
-or-true false = refl
 
 module _ (v : Service) (file : List ℕ) (c : Counts) (e : scanOf v file ≡ Accepted c) where
   abbrev generators : ℕ

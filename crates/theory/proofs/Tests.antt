@@ -24,6 +24,11 @@ pub and-true-right : (a b : Bool) → (a && b) ≡ true → b ≡ true
 and-true-right true b e = e
 and-true-right false b e = absurd (true≢false (sym e))
 
+-- one test fails beside another that holds
+pub and-false-right : (a b : Bool) → (a && b) ≡ false → a ≡ true → b ≡ false
+and-false-right true b e h = e
+and-false-right false b e h = clash h refl
+
 -- what a disjunction that fails says
 pub or-false-left : (a b : Bool) → (a || b) ≡ false → a ≡ false
 or-false-left true b e = e
