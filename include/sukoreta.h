@@ -108,9 +108,9 @@ size_t sukoreta_answer_limit(void);
  *   n             the cells of a vector, 1 to 16
  *   generators    n to a row, at most 64 rows
  *   exchanges     n to a row, at most 8 rows; each row the cells 1 to n in some sequence
- *   images        none, or, of a bare order, m for each of the e exchanges and each of the m generators, of which there
- *                 are at most 16 then: number (x * m + q) * m + i is how often generator i is taken in the image of
- *                 generator q by exchange x
+ *   images        none, or, of a bare order, m for each exchange and generator, where m, the number of generators, is
+ *                 at most 16: number (x * m + q) * m + i is how often generator i is taken in the image of generator q
+ *                 by exchange x
  *   vector        exactly n numbers
  *   rows          n to a row, at most 128 rows: the list brought to Check
  *   coefficients  one for each brought row and each generator, of which there are m: number r * m + q is for row r and
