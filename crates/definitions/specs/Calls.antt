@@ -34,7 +34,7 @@ listingOf table (stopped number place) = refused number place
 listingOf table (running s) =
     accepted (record { rows = finalRows table (s .rows); table = table; stored = length (s .rows); sums = s .sums })
 
--- 5 to 11 or 23, and then the completion
+-- 5 to 11, and then the completion
 unfoldable pub listing : Order → (listSize groupSize : ℕ) → Outcome Listing
 listing order listSize groupSize =
     let table = tableOf order groupSize in
@@ -112,7 +112,7 @@ splitCall order vector listSize groupSize piecesSize =
 
 -- ---- Check
 
--- 5.2, the rules: 5 to 11 or 23, and 17 to 19
+-- 5.2, the rules: 5 to 11 and 17 to 19
 unfoldable pub rulesFault : Order → (rows coefficients : List ℤ) (groupSize : ℕ) → Fault
 rulesFault order rows coefficients groupSize =
     firstFault

@@ -72,6 +72,6 @@ pub record ConformalSum (n : ℕ) (sent : List Exchange) (rows : List Vector) (v
   pub conform : (u : Vector) → List·Memᴰ u summands → opposes u v ≡ false
   pub addsUp : total summands ≡ v
 
--- 5.2: none of the tests 5 to 11, 23 and 17 to 19 is met
+-- 5.2: none of the tests 5 to 11 and 17 to 19 is met
 abbrev pub RulesKept : Order → (rows coefficients : List ℤ) (groupSize : ℕ) → Type 0
 RulesKept order rows coefficients groupSize = rulesFault order rows coefficients groupSize ≡ None

@@ -86,7 +86,7 @@ broughtFits order rows coefficients =
     wholeRowsUpTo listLimit (order .n) (length rows)
     && eqb (length coefficients) (length rows / order .n * (length (order .generators) / order .n))
 
--- ---- 7.2, generators and exchanges: 7 to 11, and 23
+-- ---- 7.2, generators and exchanges: 7 to 11; where numbers up to 11 are named, 23 is meant for 11 of a bare order
 
 unfoldable pub isPast : (limit : ℕ) → ℤ → Bool
 isPast limit x = not (leb (natAbs x) limit)
@@ -148,11 +148,11 @@ symmetryFault order groupSize =
     ∷ latticeFault order
     ∷ [])
 
--- 7 to 11, or 23
+-- 7 to 11
 unfoldable pub orderFault : Order → (groupSize : ℕ) → Fault
 orderFault order groupSize = firstFault (numbersFault order ∷ symmetryFault order groupSize ∷ [])
 
--- 5 to 11, or 23: the tests with which every call begins; `fits` says whether what else it lends has the right size
+-- 5 to 11: the tests with which every call begins; `fits` says whether what else it lends has the right size
 unfoldable pub admissionFault : Order → (groupSize : ℕ) (fits : Bool) → Fault
 admissionFault order groupSize fits =
     firstFault (cellsFault (order .n) ∷ sizeFault order groupSize fits ∷ orderFault order groupSize ∷ [])

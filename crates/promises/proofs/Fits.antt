@@ -1,6 +1,6 @@
 -- What an accepted file lends has the right sizes (Specification 7.3): on it no lent call meets 6 by its order.
 -- Assumes nothing.
-use mathlib.Core.Path.{_≡_, refl, sym, ap, ap₂, _∙_}
+use mathlib.Core.Path.{_≡_, sym, ap, ap₂, _∙_}
 use mathlib.Core.Bool.{Bool, true, not, _&&_, _||_, or-true}
 use mathlib.Core.List.{List}
 use Prim.Native.Nat.{ℕ, _*_, _/_, _%_, _≤_}
@@ -39,19 +39,19 @@ module _ (v : Service) (file : List ℕ) (c : Counts) (e : scanOf v file ≡ Acc
   exchanges = length (exchangesIn file c)
 
   -- no images, or one for each exchange and generator
-  images-fit : (m x : ℕ) → generators / c .cells ≡ m → exchanges / c .cells ≡ x → m ≡ c .generators → x ≡ c .exchanges
+  images-fit : generators / c .cells ≡ c .generators → exchanges / c .cells ≡ c .exchanges
       → imagesFit (orderIn file c) ≡ true
   unfolding imagesFit isBare
-  images-fit m x gens exch same sent =
+  images-fit gens exch =
       let A = accepted-order v file c e in
       let count = images-count v file c A in
       let due : ℕ = exchanges / c .cells * (generators / c .cells) * (generators / c .cells) in
       let fits : Bool = leb (generators / c .cells) bareLimit && eqb (length (imagesIn file c)) due in
       elim (decLe 1 (c .images)) [
-        | yes some ↦ (let few : generators / c .cells ≤ bareLimit = omega (arith, A .readable .limited .few .bare-ok some, gens, same) in
+        | yes some ↦ (let few : generators / c .cells ≤ bareLimit = omega (arith, A .readable .limited .few .bare-ok some, gens) in
             let all : length (imagesIn file c) ≡ due =
             count ∙ ap (λ (k : ℕ). k * c .generators) (A .images-due some)
-            ∙ (λ i. sym (exch ∙ sent) i * sym (gens ∙ same) i * sym (gens ∙ same) i) in
+            ∙ (λ i. sym exch i * sym gens i * sym gens i) in
             ap (λ (b : Bool). not (isBare (orderIn file c)) || b) (ap₂ _&&_ (le-leb _ bareLimit few) (eq-eqb _ due all))
             ∙ or-true (not (isBare (orderIn file c))))
         | no none ↦ (let zero : length (imagesIn file c) ≡ 0 = count ∙ ap (λ (k : ℕ). k * c .generators) (omega arith) ∙ zero-mul (c .generators) in
@@ -66,4 +66,4 @@ module _ (v : Service) (file : List ℕ) (c : Counts) (e : scanOf v file ≡ Acc
       let L = A .readable .limited in
       let g = rows-fit _ (c .cells) (c .generators) generators (L .some) (generators-count v file c A) (L .few .generators-ok) in
       let x = rows-fit _ (c .cells) (c .exchanges) exchanges (L .some) (exchanges-count v file c A) (L .few .exchanges-ok) in
-      ap₂ _&&_ (ap₂ _&&_ (g .0) (x .0)) (images-fit (c .generators) (c .exchanges) (g .1) (x .1) refl refl)
+      ap₂ _&&_ (ap₂ _&&_ (g .0) (x .0)) (images-fit (g .1) (x .1))
