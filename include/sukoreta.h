@@ -113,19 +113,23 @@ size_t sukoreta_answer_limit(void);
  *                 by exchange x
  *   vector        exactly n numbers
  *   rows          n to a row, at most 128 rows: the list brought to Check
- *   coefficients  one for each brought row and each generator, of which there are m: number r * m + q is for row r and
- *                 generator q
+ *   coefficients  of Check: one for each brought row and each generator, of which there are m: number r * m + q is for
+ *                 row r and generator q. Of List with coefficients, written: m for each row of the list area, however
+ *                 many these are
  *   list          written: n to a row, any number of rows, of which 128 are in use
  *   group         written: n to a row, any number of rows, of which 1,152 are in use
  *   pieces        written: 4 to a row, any number of rows
- *   counts        written: 4 numbers or more for List, 5 for Split, 2 for Check
+ *   counts        written: 4 numbers or more for List, with coefficients or not, 5 for Split, 2 for Check
  *
  * Returned is
  *   r >= 0  accepted: the rows of the list, the pieces, or the brought rows. Each written area holds, from its start on
  *             list    the rows of the list, sorted by degree
  *             group   the sequences of the group, ascending; a position is an index into these rows
+ *             coefficients  of List with coefficients: number r * m + q is how often generator q is taken in row r of
+ *                     the list; the row is the combination of the generators with its m numbers. The rows and counts
+ *                     are those of List, and Check passes the rows with these coefficients and the same order
  *             pieces  for each piece its row in the list, its position, its sign (1 or -1) and its count
- *             counts  List   rows, g, k, sums
+ *             counts  List   rows, g, k, sums; with coefficients the same
  *                     Split  pieces, rows, g, k, sums
  *                     Check  rows, sums
  *           and zeros behind that. g is the number of members of the group, k that of the rows stored, sums that of
@@ -134,7 +138,9 @@ size_t sukoreta_answer_limit(void);
  *           those above from 5 on, with these rows instead: 6 at 0 is met by any size that is not as said here, and by
  *           a counts area with fewer numbers after every other test; 10 where the group has more members than rows of
  *           its area; 13 where the list rows in use are taken, at 0 before the first sum; 16 where there are more
- *           pieces than rows of their area.
+ *           pieces than rows of their area. List with coefficients takes no images: any are 6 at 0. It alone has
+ *             24    after 12 and 13: a row is to be stored and a coefficient of it is past +-1,000,000; the place is
+ *                   the number of sums tried, this one counted
  *
  * Stack: a lent call takes about 252,000 bytes, a call on an order file up to 365,000. No memory is allocated, and
  * nothing is kept from one call to the next: calls in several threads need no lock.
@@ -143,6 +149,13 @@ int64_t sukoreta_lent_list(size_t n, const int32_t *generators, size_t generator
                            size_t exchanges_length, const int64_t *images, size_t images_length, int32_t *list,
                            size_t list_length, uint8_t *group, size_t group_length, uint64_t *counts,
                            size_t counts_length);
+
+int64_t sukoreta_lent_list_with_coefficients(size_t n, const int32_t *generators, size_t generators_length,
+                                             const uint8_t *exchanges, size_t exchanges_length,
+                                             const int64_t *images, size_t images_length, int32_t *list,
+                                             size_t list_length, uint8_t *group, size_t group_length,
+                                             int64_t *coefficients, size_t coefficients_length, uint64_t *counts,
+                                             size_t counts_length);
 
 int64_t sukoreta_lent_split(size_t n, const int32_t *generators, size_t generators_length, const uint8_t *exchanges,
                             size_t exchanges_length, const int64_t *images, size_t images_length,

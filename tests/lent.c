@@ -1,17 +1,18 @@
 // Makes the lent calls that it is told to on its standard input, and writes what they give, for tests/lent.
 //
-// A call comes as a service (one byte: 0 List, 1 Split, 2 Check), n, the length of each slice behind a byte that says
-// how it is lent (below), and the numbers of the slices that are read; n and the lengths have eight bytes. Slices come
-// as the parameters stand, and every number as this machine holds it. A call is made twice, with each slice bordering
-// on pages that may not be touched, first at their ends and then at their starts; areas to be written are full of other
-// bytes before. Written are the result (eight bytes), a byte with the faults below, and these areas.
+// A call comes as a service (one byte: 0 List, 1 Split, 2 Check, 3 List with coefficients), n, the length of each slice
+// behind a byte that says how it is lent (below), and the numbers of the slices that are read; n and the lengths have
+// eight bytes. Slices come as the parameters stand, the counts area as the last, and every number as this machine holds
+// it. A call is made twice, with each slice bordering on pages that may not be touched, first at their ends and then at
+// their starts; areas to be written are full of other bytes before. Written are the result (eight bytes), a byte with
+// the faults below, and these areas.
 // A call that takes more than a minute ends the program.
 #include <string.h>
 
 #include "pages.h"
 #include "sukoreta.h"
 
-enum { LIST, SPLIT, CHECK, SERVICES };
+enum { LIST, SPLIT, CHECK, LIST_WITH_COEFFICIENTS, SERVICES };
 enum { SLICES = 8, ROOM = 1 << 20, BORDER = 64 };
 enum { DIFFERENT = 1, BESIDE = 2, CHANGED = 4 };
 // A slice stands between its pages, is a null pointer of length 0, or, for lengths past every room, is zeros that are
@@ -28,6 +29,7 @@ static const struct {
     [LIST] = {3, 6, {4, 1, 8, 4, 1, 8}},
     [SPLIT] = {4, 8, {4, 1, 8, 4, 4, 1, 4, 8}},
     [CHECK] = {5, 7, {4, 1, 8, 4, 8, 1, 8}},
+    [LIST_WITH_COEFFICIENTS] = {3, 7, {4, 1, 8, 4, 1, 8, 8}},
 };
 
 struct slice {
@@ -52,6 +54,10 @@ static int64_t called(void *const *at) {
     if (service == SPLIT)
         return sukoreta_lent_split(n, SLICE(int32_t, 0), SLICE(uint8_t, 1), SLICE(int64_t, 2), SLICE(int32_t, 3),
                                    SLICE(int32_t, 4), SLICE(uint8_t, 5), SLICE(int32_t, 6), SLICE(uint64_t, 7));
+    if (service == LIST_WITH_COEFFICIENTS)
+        return sukoreta_lent_list_with_coefficients(n, SLICE(int32_t, 0), SLICE(uint8_t, 1), SLICE(int64_t, 2),
+                                                    SLICE(int32_t, 3), SLICE(uint8_t, 4), SLICE(int64_t, 5),
+                                                    SLICE(uint64_t, 6));
     return sukoreta_lent_check(n, SLICE(int32_t, 0), SLICE(uint8_t, 1), SLICE(int64_t, 2), SLICE(int32_t, 3),
                                SLICE(int64_t, 4), SLICE(uint8_t, 5), SLICE(uint64_t, 6));
 }

@@ -1,5 +1,6 @@
 // Measures the stack that each call takes, on orders that go through every part of it, and holds it to a bound. Each
-// call is made with all moves of a table, and then bare, with a basis of them; what is printed is the most of both.
+// call is made with all moves of a table, and then bare, with a basis of them, which List with coefficients alone
+// refuses; what is printed is the most of both.
 //
 // A call is made in a thread whose stack was filled before: what is changed afterwards was taken. What the thread takes
 // itself, found by a call that does nothing, is not counted. The last line is 'N passed, M failed'.
@@ -17,7 +18,7 @@ static uint8_t stack[STACK] __attribute__((aligned(4096)));
 static int32_t generators[MOVES * N], list[128 * N], pieces[256], vector[N], rows[128 * N];
 static uint8_t exchanges[SENT * N], group[1152 * N], order[SUKORETA_ORDER_LIMIT], answer[SUKORETA_ANSWER_LIMIT];
 static uint64_t counts[5];
-static int64_t images[SENT * BASIS * BASIS], coefficients[128 * MOVES], result;
+static int64_t images[SENT * BASIS * BASIS], coefficients[128 * MOVES], written[128 * MOVES], result;
 static size_t moves, image_count, order_length, row_count;
 
 // ---- the moves of the 4 by 4 table, its swaps of neighbouring rows and columns and its transposition
@@ -112,6 +113,12 @@ static void *lent_list(void *x) {
     return x;
 }
 
+static void *lent_list_with_coefficients(void *x) {
+    result = sukoreta_lent_list_with_coefficients(N, generators, moves * N, exchanges, SENT * N, images, image_count,
+                                                  list, 128 * N, group, 1152 * N, written, 128 * moves, counts, 5);
+    return x;
+}
+
 static void *lent_split(void *x) {
     result = sukoreta_lent_split(N, generators, moves * N, exchanges, SENT * N, images, image_count, vector, N, list,
                                  128 * N, group, 1152 * N, pieces, 256, counts, 5);
@@ -163,16 +170,21 @@ static void make(bool bare) {
     make_coefficients(bare);
 }
 
-enum { CALLED = 6 };
+enum { CALLED = 7 };
 
 int main(void) {
     static const struct {
         const char *name;
         void *(*call)(void *);
         int service;
-    } CALLS[CALLED] = {{"sukoreta_lent_list", lent_list, 0},   {"sukoreta_lent_split", lent_split, 1},
-                       {"sukoreta_lent_check", lent_check, 2}, {"sukoreta_list", call_list, 0},
-                       {"sukoreta_split", call_split, 1},      {"sukoreta_check", call_check, 2}};
+        bool takes_bare;
+    } CALLS[CALLED] = {{"sukoreta_lent_list", lent_list, 0, true},
+                       {"sukoreta_lent_list_with_coefficients", lent_list_with_coefficients, 0, false},
+                       {"sukoreta_lent_split", lent_split, 1, true},
+                       {"sukoreta_lent_check", lent_check, 2, true},
+                       {"sukoreta_list", call_list, 0, true},
+                       {"sukoreta_split", call_split, 1, true},
+                       {"sukoreta_check", call_check, 2, true}};
     size_t most[CALLED] = {0}, own = taken(nothing);
     int64_t results[CALLED][2];
     int failed = 0;
@@ -189,7 +201,7 @@ int main(void) {
     for (int i = 0; i < CALLED; i++) {
         printf("%s: %zu bytes of stack, results %lld and %lld\n", CALLS[i].name, most[i], (long long)results[i][0],
                (long long)results[i][1]);
-        failed += most[i] > BOUND || results[i][0] < 0 || results[i][1] < 0;
+        failed += most[i] > BOUND || results[i][0] < 0 || (results[i][1] >= 0) != CALLS[i].takes_bare;
     }
     printf("%d passed, %d failed\n", CALLED - failed, failed);
     return failed > 0;

@@ -8,11 +8,11 @@ use Rattle.theory.proofs.Refused.{Reported}
 use Rattle.answers.specs.Refusal.{placeFactor, refusalCode, refusalOf}
 
 -- THE NUMBER of a refusal that may be reported is below the factor of its place
-pub number-low : {number place : ℕ} → Reported 22 number place → number < placeFactor
+pub number-low : {last number place : ℕ} → Reported last number place → number < placeFactor
 number-low r = omega (arith, r .low)
 
 -- so that both can be read from the result, and the result fits
-pub refusal-fits : {number place : ℕ} → Reported 22 number place → refusalCode number place < 2 ^ 63
+pub refusal-fits : {last number place : ℕ} → Reported last number place → refusalCode number place < 2 ^ 63
 refusal-fits r = omega (arith, r .low, r .near)
 
 -- the number below zero of a number that is not 0

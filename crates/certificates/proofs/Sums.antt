@@ -3,7 +3,7 @@ use mathlib.Core.Path.{_≡_, refl, sym, _∙_, ap, ap₂}
 use mathlib.Core.Logic.{_⊎_, inl, inr}
 use mathlib.Core.Bool.{true, false}
 use mathlib.Core.List.{List, [], _∷_}
-use Prim.Native.Nat.{ℕ, zero, suc, _+_, _-_, _*_, _/_, _^_, _≤_, _<_}
+use Prim.Native.Nat.{ℕ, zero, suc, _+_, _-_, _*_, _/_, _≤_, _<_}
 use native.Mathlib.Nat.{mul-le-mul}
 use native.Mathlib.Decide.{ℕ-discrete}
 use native.Mathlib.Numerals.{add-one}
@@ -11,8 +11,8 @@ use native.Mathlib.Omega.{arith}
 use lib.IntN.{ℤ, pos, negsuc, natAbs, _+ℤ_, _*ℤ_}
 use lib.ListN.{length, getD, take, drop, replicate, drop-of-length-le, List·getD-append}
 use lib.Seq.{drop-cons, ext-getD}
-use mir.Syntax.{Width, w32, w64}
-use mir.Val.{toZ, ofZ, SFits, hbits}
+use mir.Syntax.{w32, w64}
+use mir.Val.{toZ, ofZ, SFits}
 use mir.Facts.{toZ-ofZ}
 use Rattle.definitions.specs.Limits.{cells, entryLimit, generatorLimit, coefficientLimit}
 use Rattle.definitions.specs.Lists.{any}
@@ -31,6 +31,7 @@ use Rattle.theory.proofs.Equal.{equal-same, same-equal}
 use Rattle.vectors.proofs.Cells.{wide-read}
 use Rattle.vectors.proofs.Kit.{cellAt, length-row, row-at}
 use Rattle.vectors.proofs.Rows.{row-room, vectors-at}
+use Rattle.coefficients.proofs.Numbers.{fits}
 
 -- cell j of a combination
 abbrev pub combinedAt : (coefficients : List ℤ) (generators : List Vector) (j : ℕ) → ℤ
@@ -109,11 +110,6 @@ module _ (coefficients : List ℤ) (n : ℕ) (numbers : List ℤ) (h : n ≤ cel
 -- the greatest absolute value of a coefficient times an entry
 abbrev pub termLimit : ℕ
 termLimit = coefficientLimit * entryLimit
-
--- a small number fits
-fits : {w : Width} (limit : ℕ) (z : ℤ) → natAbs z ≤ limit → limit < 2 ^ hbits w → SFits w z
-fits limit (pos a) h k = record { sfits = omega arith }
-fits limit (negsuc a) h k = record { sfits = omega arith }
 
 -- the absolute value of a product
 abs-times : (x y : ℤ) → natAbs (x *ℤ y) ≡ natAbs x * natAbs y

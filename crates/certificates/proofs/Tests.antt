@@ -1,14 +1,11 @@
 -- What the tests 18 and 19 say of one place (Specification 7.2). Assumes nothing.
 use mathlib.Core.Path.{_≡_, sym, ap}
-use mathlib.Core.Logic.{_⊎_, inl, inr}
-use mathlib.Core.Bool.{true, false, not}
+use mathlib.Core.Bool.{false, not}
 use mathlib.Core.List.{List, []}
-use Prim.Native.Nat.{ℕ, zero, suc, _-_, _≤_, _<_}
+use Prim.Native.Nat.{ℕ, zero, suc, _-_, _≤_}
 use native.Mathlib.Omega.{arith}
-use borrow.Author.Tests.{ltb-true, ltb-false}
-use lib.IntN.{ℤ, pos, negsuc, negℤ, natAbs}
+use lib.IntN.{ℤ}
 use lib.ListN.{getD}
-use lib.Signed.{ltZ}
 use Rattle.definitions.specs.Lists.{any}
 use Rattle.definitions.specs.Vector.{Vector}
 use Rattle.definitions.specs.Orbit.{precedes}
@@ -16,7 +13,6 @@ use Rattle.definitions.specs.Refusals.{isMisplaced, isPast}
 use Rattle.theory.proofs.Members.{any-none, each-map, none-any}
 use Rattle.theory.proofs.Accepted.{past-none}
 use Rattle.refusals.proofs.Turns.{not-past}
-use Rattle.vectors.proofs.Cells.{false-true}
 
 -- ---- 18
 
@@ -34,26 +30,7 @@ misplaced-at rows (suc p) h =
     let e : suc p - 1 ≡ p = omega arith in
     ap (λ (i : ℕ). not (precedes (getD rows i []) (getD rows (suc p) []))) e
 
--- ---- 19 and 23: a number against ±limit
-
--- it is above
-pub past-above : (limit : ℕ) (x : ℤ) → ltZ (pos limit) x ≡ true → limit < natAbs x
-past-above limit (pos a) e = ltb-true limit a e
-past-above limit (negsuc a) e = false-true e
-
--- it is under
-pub past-under : (limit : ℕ) (x : ℤ) → ltZ x (negℤ (pos limit)) ≡ true → limit < natAbs x
-past-under zero (pos a) e = absurd (omega (arith, ltb-true a 0 e))
-past-under zero (negsuc a) e = omega arith
-past-under (suc limit) (pos a) e = false-true e
-past-under (suc limit) (negsuc a) e = omega (arith, ltb-true limit a e)
-
--- it is neither above one limit nor under the other
-pub past-neither : (upper lower : ℕ) (x : ℤ) → ltZ (pos upper) x ≡ false → ltZ x (negℤ (pos lower)) ≡ false
-    → (natAbs x ≤ upper) ⊎ (natAbs x ≤ lower)
-past-neither upper lower (pos a) e f = inl (ltb-false upper a e)
-past-neither upper zero (negsuc a) e f = false-true (sym f)
-past-neither upper (suc lower) (negsuc a) e f = inr (omega (arith, ltb-false lower a f))
+-- ---- 19 and 23
 
 -- numbers that are not past a limit are not past a higher one
 pub past-more : {limit more : ℕ} → limit ≤ more → (xs : List ℤ) → any (isPast limit) xs ≡ false

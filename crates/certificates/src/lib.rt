@@ -16,6 +16,7 @@ ghost use Rattle.vectors.specs.Areas.{vectorsIn};
 ghost use Rattle.reduction.specs.Areas.{sequencesIn, Table};
 ghost use Rattle.certificates.specs.Tests.{misplacedFault, rowsFaultIn, uncertifiedFault, unfitFault};
 ghost use Rattle.certificates.specs.Tests.{Certifiable, Certificate, Showable, imagesFaultIn};
+use coefficients::has_past;
 use definitions::Fault;
 use definitions::limits::CELLS;
 use definitions::limits::COEFFICIENT_LIMIT;
@@ -95,25 +96,6 @@ fn misplaced_fault(rows: &[i32], n: usize) -> Fault
         p += 1;
     }
     Fault::None
-}
-
-// Whether a coefficient is past a limit (Specification 7.2).
-fn has_past(coefficients: &[i64], limit: u32) -> bool
-    ensures told { λ r. ⌜ r ≡ any (isPast limit) (now (coefficients .entry)) ⌝ }
-{
-    let most = limit as i64;
-    let mut q = 0;
-    while q < coefficients.len() {
-        let c = coefficients[q];
-        if most < c {
-            return true;
-        }
-        if c < 0 - most {
-            return true;
-        }
-        q += 1;
-    }
-    false
 }
 
 // Cell `j` of the combination of the generators with these coefficients (Specification 2.2).

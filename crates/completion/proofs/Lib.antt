@@ -2,6 +2,4 @@
 pub mod Appending
 pub mod Facts
 pub mod FirstRows
-pub mod Joined
 pub mod Sums
-pub mod Turns

@@ -1,4 +1,4 @@
--- Specification 1.1 and 7.4: the three lent calls. For each input the answer, and what every area lent for writing
+-- Specification 1.1 and 7.4: the lent calls. For each input the answer, and what every area lent for writing
 -- holds at the end. Such an area is given by its size. Assumes nothing.
 use mathlib.Core.List.{List, [], _∷_, map}
 use Prim.Native.Nat.{ℕ, _/_}
@@ -12,12 +12,13 @@ use Rattle.definitions.specs.Lists.{concat}
 use Rattle.definitions.specs.Vector.{Vector, padded}
 use Rattle.definitions.specs.Group.{Exchange}
 use Rattle.definitions.specs.Completion.{Completion, running, stopped, completed, finalRows, sumCount}
+use Rattle.definitions.specs.Certified.{CertifiedCompletion, certifiedCompleted, finalCoefficients}
 use Rattle.definitions.specs.Split.{Piece, placedOrbits, splitting, written}
 use Rattle.definitions.specs.Lent.{Order, generatorsOf, tableOf}
 use Rattle.definitions.specs.Lent.{filled, listRows, numbersOf, vectorsOf, wholeRows}
 use Rattle.definitions.specs.Refusals.{Outcome, accepted, refused, firstFault, unlessFault, admissionFault}
 use Rattle.definitions.specs.Refusals.{cellsFault, splitSizeFault, splitFault}
-use Rattle.definitions.specs.Refusals.{broughtFits, rowsFault, wholenessFault}
+use Rattle.definitions.specs.Refusals.{certifiedFits, broughtFits, rowsFault, wholenessFault}
 
 -- ---- List
 
@@ -59,6 +60,64 @@ listEnd n listSize groupSize (accepted found) =
 
 unfoldable pub listCall : Order → (listSize groupSize : ℕ) → ListEnd
 listCall order listSize groupSize = listEnd (order .n) listSize groupSize (listing order listSize groupSize)
+
+-- ---- List with coefficients
+
+-- what it finds: what a List finds, and the coefficients of its rows
+pub record CertifiedListing : Type 0 where
+  pub listing : Listing
+  pub coefficients : List (List ℤ)
+
+-- 3.5, once 3.1 to 3.4 have ended
+unfoldable pub listedCoefficients : (table : List Exchange) (coefficients : List (List ℤ)) → Completion → List (List ℤ)
+listedCoefficients table coefficients (stopped number place) = []
+listedCoefficients table coefficients (running s) = finalCoefficients table (s .rows) coefficients
+
+unfoldable pub withCoefficients : (coefficients : List (List ℤ)) → Outcome Listing → Outcome CertifiedListing
+withCoefficients coefficients (refused number place) = refused number place
+withCoefficients coefficients (accepted found) = accepted (record { listing = found; coefficients = coefficients })
+
+unfoldable pub certifiedListingOf : (table : List Exchange) → CertifiedCompletion → Outcome CertifiedListing
+certifiedListingOf table x =
+    withCoefficients (listedCoefficients table (x .coefficients) (x .completion)) (listingOf table (x .completion))
+
+-- 5 to 11, and then the completion
+unfoldable pub certifiedListing : Order → (listSize groupSize coefficientSize : ℕ) → Outcome CertifiedListing
+certifiedListing order listSize groupSize coefficientSize =
+    let table = tableOf order groupSize in
+    let generators = generatorsOf order in
+    unlessFault (admissionFault order groupSize (certifiedFits order listSize coefficientSize))
+    (certifiedListingOf table (certifiedCompleted generators table (listRows (order .n) listSize) generators))
+
+-- its end: that of a List, and the coefficients area
+pub record CertifiedEnd : Type 0 where
+  pub answer : Answer
+  pub list : List ℤ
+  pub group : List ℕ
+  pub coefficients : List ℤ
+
+unfoldable pub certifiedEnd : (n listSize groupSize coefficientSize : ℕ) → Outcome CertifiedListing → CertifiedEnd
+certifiedEnd n listSize groupSize coefficientSize (refused number place) =
+    let end = listEnd n listSize groupSize (refused number place) in
+    record {
+      answer = end .answer;
+      list = end .list;
+      group = end .group;
+      coefficients = filled (pos 0) coefficientSize [];
+    }
+certifiedEnd n listSize groupSize coefficientSize (accepted found) =
+    let end = listEnd n listSize groupSize (accepted (found .listing)) in
+    record {
+      answer = end .answer;
+      list = end .list;
+      group = end .group;
+      coefficients = filled (pos 0) coefficientSize (concat (found .coefficients));
+    }
+
+unfoldable pub certifiedCall : Order → (listSize groupSize coefficientSize : ℕ) → CertifiedEnd
+certifiedCall order listSize groupSize coefficientSize =
+    certifiedEnd (order .n) listSize groupSize coefficientSize
+    (certifiedListing order listSize groupSize coefficientSize)
 
 -- ---- Split
 

@@ -2,19 +2,22 @@
 use mathlib.Core.Path.{_≡_}
 use mathlib.Core.Bool.{true, false}
 use mathlib.Core.List.{List, [], map, List·Memᴰ}
-use Prim.Native.Nat.{ℕ, suc, _<_}
+use Prim.Native.Nat.{ℕ, suc, _≤_, _<_, _/_}
 use lib.IntN.{ℤ}
 use lib.ListN.{length, getD}
+use Rattle.definitions.specs.declared.Answer.the-variants.{Passed}
 use Rattle.definitions.specs.declared.Fault.the-variants.{None}
-use Rattle.definitions.specs.Limits.{entryLimit}
+use Rattle.definitions.specs.Limits.{entryLimit, storedCoefficientLimit}
+use Rattle.definitions.specs.Lists.{concat}
 use Rattle.definitions.specs.Vector.{Vector, total, within, opposes}
-use Rattle.definitions.specs.Lattice.{Graver}
+use Rattle.definitions.specs.Lattice.{Graver, combination}
 use Rattle.definitions.specs.Group.{Exchange, InGroup, exchanged, earlier}
 use Rattle.definitions.specs.Orbit.{IsImage, signed, representative, precedes}
 use Rattle.definitions.specs.Completion.{sumCount}
 use Rattle.definitions.specs.Split.{Piece, share}
-use Rattle.definitions.specs.Lent.{Order, generatorsOf, exchangesOf}
-use Rattle.definitions.specs.Calls.{Listing, rulesFault}
+use Rattle.definitions.specs.Lent.{Order, generatorsOf, exchangesOf, numbersOf, wholeRows}
+use Rattle.definitions.specs.Refusals.{accepted}
+use Rattle.definitions.specs.Calls.{Listing, CertifiedListing, listing, checkCall, rulesFault}
 
 -- 2.8: v is an image of exactly one row
 pub record OneRow (n : ℕ) (sent : List Exchange) (rows : List Vector) (v : Vector) : Type 0 where
@@ -47,6 +50,25 @@ pub record ListKept (order : Order) (found : Listing) : Type 0 where
   pub limited : (r : ℕ) → r < length (found .rows) → within entryLimit (getD (found .rows) r []) ≡ true
   pub table : IsTable (order .n) (exchangesOf order) (found .table)
   pub counted : found .sums ≡ sumCount (length (found .table)) (found .stored)
+
+-- 3.7: what holds of each accepted listing with coefficients
+pub record CertifiedKept (order : Order) (listSize groupSize : ℕ) (found : CertifiedListing) : Type 0 where
+  -- it is the plain call's list, and whole
+  pub plain : listing order listSize groupSize ≡ accepted (found .listing)
+  pub kept : ListKept order (found .listing)
+  -- each row has a coefficient for each generator, none past its limit, and is the combination with them
+  pub long : length (found .coefficients) ≡ length (found .listing .rows)
+  pub oneEach : (r : ℕ) → r < length (found .listing .rows)
+      → length (getD (found .coefficients) r []) ≡ length (generatorsOf order)
+  pub limited : (r : ℕ) → r < length (found .listing .rows)
+      → within storedCoefficientLimit (getD (found .coefficients) r []) ≡ true
+  pub addsUp : (r : ℕ) → r < length (found .listing .rows)
+      → combination (getD (found .coefficients) r []) (generatorsOf order) ≡ getD (found .listing .rows) r []
+  -- sent back to Check with the same order it is passed, in every group area that has room for the group
+  pub passed : (other : ℕ) → wholeRows (order .n) other ≡ true → length (found .listing .table) ≤ other / order .n
+      → checkCall order (numbersOf (order .n) (found .listing .rows)) (concat (found .coefficients)) other .answer
+      ≡ Passed (length (found .listing .rows))
+      (sumCount (length (found .listing .table)) (length (found .listing .rows)))
 
 -- 4.2: a piece is a listed image, at the row and the position that it names, taken at least once, and opposes v in
 -- no cell

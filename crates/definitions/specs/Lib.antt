@@ -6,9 +6,11 @@ pub mod Lattice
 pub mod Group
 pub mod Orbit
 pub mod Completion
+pub mod Certified
 pub mod Split
 pub mod Lent
 pub mod Refusals
 pub mod Calls
 pub mod Demands
 pub mod Samples
+pub mod CertifiedSamples

@@ -41,6 +41,10 @@ splitLimit = 1_000_000
 abbrev pub coefficientLimit : ℕ
 coefficientLimit = 1_000_000
 
+-- 24: the greatest absolute value of a coefficient of a stored row
+abbrev pub storedCoefficientLimit : ℕ
+storedCoefficientLimit = 1_000_000
+
 -- the numbers that a piece takes in the pieces area
 abbrev pub pieceWidth : ℕ
 pieceWidth = 4

@@ -1,4 +1,4 @@
--- Specification 7: the table of refusals, for lent calls. 12 and 13 are in Completion. Assumes nothing.
+-- Specification 7: the table of refusals, for lent calls. 12 and 13 are in Completion, 24 in Certified. Assumes nothing.
 use mathlib.Core.Bool.{Bool, false, _&&_, _||_, not}
 use mathlib.Core.List.{List, [], _∷_, _++_, map}
 use Prim.Native.Nat.{ℕ, zero, suc, _+_, _*_, _/_}
@@ -85,6 +85,13 @@ unfoldable pub broughtFits : Order → (rows coefficients : List ℤ) → Bool
 broughtFits order rows coefficients =
     wholeRowsUpTo listLimit (order .n) (length rows)
     && eqb (length coefficients) (length rows / order .n * (length (order .generators) / order .n))
+
+-- what else a List with coefficients lends: whole list rows, with m coefficients for each; and the order is not bare
+unfoldable pub certifiedFits : Order → (listSize coefficientSize : ℕ) → Bool
+certifiedFits order listSize coefficientSize =
+    wholeRows (order .n) listSize
+    && eqb coefficientSize (listSize / order .n * (length (order .generators) / order .n))
+    && not (isBare order)
 
 -- ---- 7.2, generators and exchanges: 7 to 11; where numbers up to 11 are named, 23 is meant for 11 of a bare order
 

@@ -46,6 +46,11 @@ unfoldable pub total : List Vector → Vector
 total [] = zeroVector
 total (v ∷ vectors) = plus v (total vectors)
 
+-- v less each of some more
+unfoldable pub minusAll : Vector → List Vector → Vector
+minusAll v [] = v
+minusAll v (u ∷ vectors) = minusAll (minus v u) vectors
+
 -- 2.1: the sum of the absolute values
 unfoldable pub weight : Vector → ℕ
 weight [] = 0

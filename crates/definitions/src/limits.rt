@@ -30,6 +30,9 @@ pub const SPLIT_LIMIT: u32 = 1_000_000;
 // 19: the greatest absolute value of a coefficient of a brought row.
 pub const COEFFICIENT_LIMIT: u32 = 1_000_000;
 
+// 24: the greatest absolute value of a coefficient of a stored row.
+pub const STORED_COEFFICIENT_LIMIT: u32 = 1_000_000;
+
 // The numbers that a piece takes in the pieces area.
 pub const PIECE_WIDTH: usize = 4;
 

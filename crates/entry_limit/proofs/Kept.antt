@@ -12,6 +12,7 @@ use lib.IntN.{ℤ, natAbs, pos}
 use lib.ListN.{getD, length}
 use Rattle.definitions.specs.declared.Fault.{Fault}
 use Rattle.definitions.specs.declared.Fault.the-variants.{None, At}
+use Rattle.definitions.specs.Lists.{until}
 use Rattle.definitions.specs.Vector.{Vector, equal, isZero, within}
 use Rattle.definitions.specs.Group.{Exchange}
 use Rattle.definitions.specs.Orbit.{representative}
@@ -168,7 +169,7 @@ module _ {low high : ℕ} (h : low ≤ high) where
 
   run-kept : (table : List Exchange) (limit fuel : ℕ) {c d : Completion} → Kept CompletionBy c d
       → Kept CompletionBy (runWithin low table limit fuel c) (runWithin high table limit fuel d)
-  unfolding runWithin isOver
+  unfolding runWithin until isOver
   run-kept table limit zero k = k
   run-kept table limit (suc fuel) k =
       kept-next CompletionBy CompletionBy (runWithin low table limit (suc fuel)) (runWithin high table limit (suc fuel))

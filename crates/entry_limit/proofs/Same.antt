@@ -6,6 +6,7 @@ use Prim.Native.Nat.{ℕ, zero, suc}
 use lib.IntN.{ℤ}
 use Rattle.definitions.specs.declared.Fault.{Fault}
 use Rattle.definitions.specs.Limits.{entryLimit}
+use Rattle.definitions.specs.Lists.{until}
 use Rattle.definitions.specs.Group.{Exchange}
 use Rattle.definitions.specs.Completion.{Completion, running, stopped, completed, isOver, run, settled, step}
 use Rattle.definitions.specs.Lent.{Order, listRows, tableOf, wholeRows}
@@ -36,7 +37,7 @@ step-same table limit (running s) = refl
 
 run-same : (table : List Exchange) (limit fuel : ℕ) (c : Completion)
     → runWithin entryLimit table limit fuel c ≡ run table limit fuel c
-unfolding run runWithin
+unfolding run runWithin until
 run-same table limit zero c = refl
 run-same table limit (suc fuel) c =
     ap (cond (isOver c) c)

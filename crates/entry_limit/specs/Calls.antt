@@ -2,7 +2,7 @@
 -- it, with `entries` in the place of `entryLimit`. With `entryLimit` they are those definitions. Assumes nothing.
 use mathlib.Core.Bool.{Bool, false, _||_, not}
 use mathlib.Core.List.{List, [], _∷_, _++_}
-use Prim.Native.Nat.{ℕ, zero, suc, _+_, _/_}
+use Prim.Native.Nat.{ℕ, _+_, _/_}
 use lib.Dec.{leb, eqb}
 use lib.IntN.{ℤ, pos}
 use lib.ListN.{length, getD}
@@ -10,7 +10,7 @@ use Rattle.definitions.specs.declared.Answer.{Answer}
 use Rattle.definitions.specs.declared.Answer.the-variants.{Moves, Split, Passed, Refused}
 use Rattle.definitions.specs.declared.Fault.{Fault}
 use Rattle.definitions.specs.Limits.{coefficientLimit}
-use Rattle.definitions.specs.Lists.{if_then_else_}
+use Rattle.definitions.specs.Lists.{if_then_else_, until}
 use Rattle.definitions.specs.Vector.{Vector, within, isZero, equal}
 use Rattle.definitions.specs.Group.{Exchange, isExchange}
 use Rattle.definitions.specs.Orbit.{representative}
@@ -51,10 +51,7 @@ module _ (entries : ℕ) where
       else settledWithin table limit s (remainder table (s .rows) (sumAt table s))
 
   unfoldable pub runWithin : (table : List Exchange) (limit fuel : ℕ) → Completion → Completion
-  runWithin table limit zero c = c
-  runWithin table limit (suc fuel) c =
-      let rest = runWithin table limit fuel (stepWithin table limit c) in
-      if isOver c then c else rest
+  runWithin table limit fuel c = until isOver (stepWithin table limit) fuel c
 
   unfoldable pub completedWithin : (table : List Exchange) (limit : ℕ) (generators : List Vector) → Completion
   completedWithin table limit generators =

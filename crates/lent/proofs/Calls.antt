@@ -19,16 +19,21 @@ use Rattle.definitions.specs.Lent.{Order, filled, tableOf}
 use Rattle.definitions.specs.Refusals.{Outcome, accepted, refused}
 use Rattle.definitions.specs.Calls.{ListEnd, Listing, Parts, SplitEnd, CheckEnd, listCall, listEnd, listing, parts}
 use Rattle.definitions.specs.Calls.{checkCall, checkEnd, checkFault, splitCall, splitEnd}
+use Rattle.definitions.specs.Calls.{CertifiedEnd, CertifiedListing, certifiedCall, certifiedEnd, certifiedListing}
 use Rattle.theory.proofs.Areas.{filled-nothing, list-accepted, split-accepted}
 use Rattle.theory.proofs.CheckCall.{vectors-count}
 use Rattle.theory.proofs.Counts.{check-counts, listing-counts, split-counts}
 use Rattle.theory.proofs.Refused.{check-answer-reported, list-answer-reported, split-answer-reported}
+use Rattle.certified_theory.proofs.Forgetting.{certified-listing}
+use Rattle.certified_theory.proofs.Reporting.{certified-answer-reported}
+use Rattle.certified_theory.proofs.Written.{certified-accepted}
 use Rattle.moves.specs.Promise.{CheckPassed, CheckPromise, ListAccepted, ListPromise, PastEntries}
 use Rattle.moves.specs.Promise.{SplitAccepted, SplitPromise}
+use Rattle.certified_lists.specs.Promise.{CertifiedAccepted, CertifiedPromise}
 use Rattle.answers.specs.Refusal.{refusalOf}
 use Rattle.answers.proofs.Refusals.{refusal-fits, refusal-negative}
-use Rattle.lent.specs.Ends.{Reports, Small, countsOf, lentCheck, lentList, lentSplit, resultOf}
-use Rattle.lent.specs.Promise.{CheckLent, ListLent, MayPass, Outside, Returned, SplitLent}
+use Rattle.lent.specs.Ends.{Reports, Small, countsOf, lentCertified, lentCheck, lentList, lentSplit, resultOf}
+use Rattle.lent.specs.Promise.{CertifiedLent, CheckLent, ListLent, MayPass, Outside, Returned, SplitLent}
 use Rattle.lent.proofs.Reporting.{reports-as, returned-all, returned-refusal}
 use Rattle.lent.proofs.Ending.{Called, Counts, Ending, count-above, counts, ending, given, refusal-below}
 use Rattle.lent.proofs.Ending.{refusal-called, refuses, turned}
@@ -160,6 +165,139 @@ module _ (order : Order) (list : List ℤ) (group area : List ℕ) {answer : Ans
         groupHolds = g ∙ sym (filled-nothing 0 (length group)) ∙ ap (λ (e : ListEnd). e .group) (sym d);
         accepted = λ j e. above-below h e;
         refused = λ j e. (record { listHolds = l; groupHolds = g }, r .countsHold ∙ filled-nothing 0 (length area));
+      }
+
+-- ---- List with coefficients
+module _ (order : Order) (listSize groupSize coefficientSize : ℕ) where
+  -- a refusal of the List with coefficients
+  abbrev certifiedRefused : (number place : ℕ) → CertifiedEnd
+  certifiedRefused number place = certifiedEnd (order .n) listSize groupSize coefficientSize (refused number place)
+
+  -- how it ends
+  certified-called : Called (λ (e : CertifiedEnd). e .answer) (certifiedCall order listSize groupSize coefficientSize)
+      certifiedRefused
+  unfolding certifiedCall certifiedEnd listEnd
+  certified-called = go (certifiedListing order listSize groupSize coefficientSize) refl
+    where
+      go : (o : Outcome CertifiedListing) → certifiedListing order listSize groupSize coefficientSize ≡ o
+          → Called (λ (e : CertifiedEnd). e .answer) (certifiedCall order listSize groupSize coefficientSize)
+          certifiedRefused
+      go (accepted found) e =
+          counts
+          (length (found .listing .rows), ap resultOf (certified-accepted order listSize groupSize coefficientSize found e .answer))
+      go (refused a b) e =
+          let q = ap (certifiedEnd (order .n) listSize groupSize coefficientSize) e in
+          let h = ap (λ (x : CertifiedEnd). x .answer) q in
+          refuses a b h q (certified-answer-reported order listSize groupSize coefficientSize a b h)
+
+  -- its answer can be returned
+  pub certified-small : Small (certifiedCall order listSize groupSize coefficientSize .answer)
+  unfolding certifiedCall certifiedEnd listEnd
+  certified-small = go (certifiedListing order listSize groupSize coefficientSize) refl
+    where
+      go : (o : Outcome CertifiedListing) → certifiedListing order listSize groupSize coefficientSize ≡ o
+          → Small (certifiedEnd (order .n) listSize groupSize coefficientSize o .answer)
+      go (accepted found) e =
+          let plain = certified-listing order listSize groupSize coefficientSize found e in
+          omega (arith, listing-counts order listSize groupSize (found .listing) plain .rows)
+      go (refused a b) e =
+          let h = ap (λ (o : Outcome CertifiedListing). certifiedEnd (order .n) listSize groupSize coefficientSize o .answer) e in
+          refusal-fits (certified-answer-reported order listSize groupSize coefficientSize a b h)
+
+-- the same sizes, said otherwise
+pub certified-sized : {order : Order} {listSize listSize′ groupSize groupSize′ size size′ : ℕ} {answer : Answer}
+    {list : List ℤ} {group : List ℕ} {coefficients : List ℤ} → listSize ≡ listSize′ → groupSize ≡ groupSize′
+    → size ≡ size′ → CertifiedPromise order listSize groupSize size answer list group coefficients
+    → CertifiedPromise order listSize′ groupSize′ size′ answer list group coefficients
+certified-sized {order} {listSize′ = ls} {groupSize} {groupSize′ = gs} {size} {answer = a} {list} {group} {coefficients} e f g P =
+    subst (λ (k : ℕ). CertifiedPromise order ls gs k a list group coefficients) g
+    (subst (λ (k : ℕ). CertifiedPromise order ls k size a list group coefficients) f
+    (subst (λ (k : ℕ). CertifiedPromise order k groupSize size a list group coefficients) e P))
+
+module _ (order : Order) (list : List ℤ) (group : List ℕ) (coefficients : List ℤ) (area : List ℕ) {answer : Answer}
+    {first : List ℤ} {table : List ℕ} {noted : List ℤ} {result : ℤ}
+    (P : CertifiedPromise order (length list) (length group) (length coefficients) answer first table noted)
+    (R : Reports answer (length area) result area) where
+  -- the call without counts
+  abbrev certifiedCalled : CertifiedEnd
+  certifiedCalled = certifiedCall order (length list) (length group) (length coefficients)
+
+  -- its two ends
+  abbrev CertifiedEnding : Type 0
+  CertifiedEnding =
+      Ending (λ (e : CertifiedEnd). e .answer) certifiedCalled
+      (certifiedRefused order (length list) (length group) (length coefficients)) result area
+
+  -- how the lent call ends
+  certified-ending : CertifiedEnding
+  certified-ending =
+      ending _ _ _ (reports-as (sym (P .answers)) R)
+      (certified-called order (length list) (length group) (length coefficients))
+
+  -- the list that was found
+  certified-found : Counts (certifiedCalled .answer) → list ≡ first → group ≡ table → coefficients ≡ noted
+      → CertifiedAccepted order (length list) (length group) answer list group coefficients
+  unfolding certifiedCall certifiedEnd listEnd
+  certified-found k l g m =
+      go (certifiedListing order (length list) (length group) (length coefficients)) refl k
+    where
+      Found : List ℤ → List ℕ → List ℤ → Type 0
+      Found x y z = CertifiedAccepted order (length list) (length group) answer x y z
+
+      go : (o : Outcome CertifiedListing)
+          → certifiedListing order (length list) (length group) (length coefficients) ≡ o
+          → Counts (certifiedEnd (order .n) (length list) (length group) (length coefficients) o .answer)
+          → Found list group coefficients
+      go (accepted found) e k =
+          let H = certified-accepted order (length list) (length group) (length coefficients) found e in
+          let A = P .accepted _ _ _ _ (P .answers ∙ H .answer) in
+          subst⁻¹ (λ (x : List ℤ). Found x group coefficients) l
+          (subst⁻¹ (λ (y : List ℕ). Found first y coefficients) g (subst⁻¹ (λ (z : List ℤ). Found first table z) m A))
+      go (refused a b) e k =
+          let h = ap (λ (o : Outcome CertifiedListing). certifiedEnd (order .n) (length list) (length group) (length coefficients) o .answer) e in
+          refusal-negative a b (k .0)
+          (certified-answer-reported order (length list) (length group) (length coefficients) a b h .some) (k .1)
+
+  -- the areas stay as they are
+  pub certified-kept : ltZ result (pos 0) ≡ false → list ≡ first → group ≡ table → coefficients ≡ noted
+      → CertifiedLent order result list group coefficients area
+  unfolding lentCertified
+  certified-kept h l g m = go certified-ending
+    where
+      go : CertifiedEnding → CertifiedLent order result list group coefficients area
+      go (turned number place n d r) = refusal-not n r h
+      go (given k room d r) = record {
+        returned = subst⁻¹ (λ (e : CertifiedEnd). Returned (e .answer) result area) d r;
+        listHolds = l ∙ P .listHolds ∙ ap (λ (e : CertifiedEnd). e .list) (sym d);
+        groupHolds = g ∙ P .groupHolds ∙ ap (λ (e : CertifiedEnd). e .group) (sym d);
+        coefficientsHold = m ∙ P .coefficientsHold ∙ ap (λ (e : CertifiedEnd). e .coefficients) (sym d);
+        accepted = λ j e. record {
+          answer = answer;
+          kept = certified-found k l g m;
+          returned = subst⁻¹ (λ (a : Answer). Returned a result area) (P .answers) r;
+        };
+        refused = λ j e. below-above h e;
+      }
+
+  -- the areas are cleared
+  pub certified-cleared : ltZ result (pos 0) ≡ true → list ≡ replicate (length list) (pos 0)
+      → group ≡ replicate (length group) 0 → coefficients ≡ replicate (length coefficients) (pos 0)
+      → CertifiedLent order result list group coefficients area
+  unfolding lentCertified certifiedEnd listEnd
+  certified-cleared h l g m = go certified-ending
+    where
+      go : CertifiedEnding → CertifiedLent order result list group coefficients area
+      go (given k room d r) = count-not r k h
+      go (turned number place n d r) = record {
+        returned = subst⁻¹ (λ (e : CertifiedEnd). Returned (e .answer) result area) d r;
+        listHolds = l ∙ sym (filled-nothing (pos 0) (length list)) ∙ ap (λ (e : CertifiedEnd). e .list) (sym d);
+        groupHolds = g ∙ sym (filled-nothing 0 (length group)) ∙ ap (λ (e : CertifiedEnd). e .group) (sym d);
+        coefficientsHold = m ∙ sym (filled-nothing (pos 0) (length coefficients)) ∙ ap (λ (e : CertifiedEnd). e .coefficients) (sym d);
+        accepted = λ j e. above-below h e;
+        refused = λ j e. (
+          record { listHolds = l; groupHolds = g; coefficientsHold = m },
+          r .countsHold ∙ filled-nothing 0 (length area),
+        );
       }
 
 -- ---- Split

@@ -56,8 +56,8 @@ module _ {E : Type 0} (answerOf : E → Answer) (call : E) (refusedAs : (number 
   -- the two ends of the call itself: no refusal, or one that may be reported
   pub data Called : Type 0 where
     counts : Counts (answerOf call) → Called
-    refuses : (number place : ℕ) → answerOf call ≡ Refused number place → call ≡ refusedAs number place
-        → Reported 22 number place → Called
+    refuses : {last : ℕ} (number place : ℕ) → answerOf call ≡ Refused number place → call ≡ refusedAs number place
+        → Reported last number place → Called
 
   module _ {result : ℤ} {area : List ℕ} (R : Reports (answerOf call) (length area) result area) where
     -- EVERY CALL ENDS in one of them

@@ -11,7 +11,8 @@ use Rattle.definitions.specs.declared.Fault.the-variants.{At}
 use Rattle.definitions.specs.Lists.{if_then_else_}
 use Rattle.definitions.specs.Lent.{Order, filled}
 use Rattle.definitions.specs.Refusals.{refused}
-use Rattle.definitions.specs.Calls.{ListEnd, SplitEnd, CheckEnd, listCall, listEnd, splitCall, splitEnd}
+use Rattle.definitions.specs.Calls.{ListEnd, CertifiedEnd, SplitEnd, CheckEnd, listCall, listEnd, splitCall, splitEnd}
+use Rattle.definitions.specs.Calls.{certifiedCall, certifiedEnd}
 use Rattle.definitions.specs.Calls.{checkCall, checkEnd}
 use Rattle.answers.specs.Refusal.{refusalCode, refusalOf}
 
@@ -54,11 +55,16 @@ pub record Reports (answer : Answer) (size : ℕ) (result : ℤ) (counts : List 
   pub results : result ≡ resultOf (counted answer size)
   pub countsHold : counts ≡ filled 0 size (countsOf (counted answer size))
 
--- ---- the three calls: they end as those without counts do, or with 6 at 0 where the counts area is short
+-- ---- the calls: they end as those without counts do, or with 6 at 0 where the counts area is short
 unfoldable pub lentList : Order → (listSize groupSize countsSize : ℕ) → ListEnd
 lentList order listSize groupSize countsSize =
     let end = listCall order listSize groupSize in
     ifRoomy (end .answer) countsSize end (listEnd (order .n) listSize groupSize (refused 6 0))
+
+unfoldable pub lentCertified : Order → (listSize groupSize coefficientSize countsSize : ℕ) → CertifiedEnd
+lentCertified order listSize groupSize coefficientSize countsSize =
+    let end = certifiedCall order listSize groupSize coefficientSize in
+    ifRoomy (end .answer) countsSize end (certifiedEnd (order .n) listSize groupSize coefficientSize (refused 6 0))
 
 unfoldable pub lentSplit : Order → (vector : List ℤ) (listSize groupSize piecesSize countsSize : ℕ) → SplitEnd
 lentSplit order vector listSize groupSize piecesSize countsSize =

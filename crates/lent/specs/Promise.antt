@@ -12,12 +12,13 @@ use Rattle.definitions.specs.declared.Answer.the-variants.{Passed}
 use Rattle.definitions.specs.Vector.{padded}
 use Rattle.definitions.specs.Lattice.{InLattice}
 use Rattle.definitions.specs.Lent.{Order, exchangesOf, filled, generatorsOf, vectorsOf}
-use Rattle.definitions.specs.Calls.{ListEnd, SplitEnd, CheckEnd}
+use Rattle.definitions.specs.Calls.{ListEnd, CertifiedEnd, SplitEnd, CheckEnd}
 use Rattle.definitions.specs.Demands.{RulesKept, Whole}
 use Rattle.vectors.specs.Areas.{Lent, sentOrder}
 use Rattle.moves.specs.Promise.{CheckPassed, ListAccepted, ListZero, PastEntries, SplitAccepted, SplitZero}
+use Rattle.certified_lists.specs.Promise.{CertifiedAccepted, CertifiedZero}
 use Rattle.answers.specs.Refusal.{refusalOf}
-use Rattle.lent.specs.Ends.{countsOf, lentCheck, lentList, lentSplit, resultOf}
+use Rattle.lent.specs.Ends.{countsOf, lentCertified, lentCheck, lentList, lentSplit, resultOf}
 
 -- an answer was returned, and its counts stand in their area
 pub record Returned (answer : Answer) (result : ℤ) (counts : List ℕ) : Type 0 where
@@ -54,6 +55,38 @@ abbrev pub KeepsLentList : (n : ℕ) (generators : Lent ℤ) (exchanges : Lent �
 KeepsLentList n generators exchanges images list group counts result =
     let order = sentOrder n generators exchanges images in
     ListLent order result (now (list .exit)) (now (group .exit)) (now (counts .exit))
+
+-- ---- List with coefficients
+
+-- the end that is due
+abbrev pub certifiedDue : Order → (list : List ℤ) (group : List ℕ) (coefficients : List ℤ) (counts : List ℕ)
+    → CertifiedEnd
+certifiedDue order list group coefficients counts =
+    lentCertified order (length list) (length group) (length coefficients) (length counts)
+
+-- a result that is no refusal: what `CertifiedPromise` says of an accepted list
+pub record CertifiedGiven (order : Order) (result : ℤ) (list : List ℤ) (group : List ℕ) (coefficients : List ℤ)
+    (counts : List ℕ) : Type 0 where
+  pub answer : Answer
+  pub kept : CertifiedAccepted order (length list) (length group) answer list group coefficients
+  pub returned : Returned answer result counts
+
+-- sukoreta_lent_list_with_coefficients: the result and the areas by the definition; and what a reader may conclude
+pub record CertifiedLent (order : Order) (result : ℤ) (list : List ℤ) (group : List ℕ) (coefficients : List ℤ)
+    (counts : List ℕ) : Type 0 where
+  pub returned : Returned (certifiedDue order list group coefficients counts .answer) result counts
+  pub listHolds : list ≡ certifiedDue order list group coefficients counts .list
+  pub groupHolds : group ≡ certifiedDue order list group coefficients counts .group
+  pub coefficientsHold : coefficients ≡ certifiedDue order list group coefficients counts .coefficients
+  pub accepted : (k : ℕ) → result ≡ pos k → CertifiedGiven order result list group coefficients counts
+  pub refused : (k : ℕ) → result ≡ negsuc k → CertifiedZero list group coefficients × CountsZero counts
+
+-- .. of the order that is sent, in the areas that are lent
+abbrev pub KeepsLentCertified : (n : ℕ) (generators : Lent ℤ) (exchanges : Lent ℕ) (images list : Lent ℤ)
+    (group : Lent ℕ) (coefficients : Lent ℤ) (counts : Lent ℕ) (result : ℤ) → Type 0
+KeepsLentCertified n generators exchanges images list group coefficients counts result =
+    let order = sentOrder n generators exchanges images in
+    CertifiedLent order result (now (list .exit)) (now (group .exit)) (now (coefficients .exit)) (now (counts .exit))
 
 -- ---- Split
 

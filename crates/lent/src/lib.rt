@@ -4,8 +4,10 @@ ghost use Prim.Native.Nat.{_≤_, _<_, _^_};
 ghost use lib.ListN.{length, getD, take};
 ghost use Rattle.definitions.specs.Lent.{filled};
 ghost use Rattle.lent.specs.Ends.{Gives, Reports, Small};
-ghost use Rattle.lent.specs.Promise.{KeepsLentCheck, KeepsLentList, KeepsLentSplit};
+ghost use Rattle.lent.specs.Promise.{KeepsLentCertified, KeepsLentCheck, KeepsLentList, KeepsLentSplit};
 use answers::refusal;
+use certified_lists::list_with_coefficients;
+use coefficients::clear_coefficients;
 use definitions::Answer;
 use vectors::clear;
 use vectors::clear_bytes;
@@ -105,6 +107,40 @@ pub extern "C" fn sukoreta_lent_list(
     if result < 0 {
         clear(list, 0);
         clear_bytes(group, 0);
+        return result;
+    }
+    result
+}
+
+// List with coefficients on lent areas, for C (Specification 1.1): as List, and the coefficients of the rows in their
+// area.
+#[no_mangle]
+pub extern "C" fn sukoreta_lent_list_with_coefficients(
+    n: usize,
+    generators: &[i32],
+    exchanges: &[u8],
+    images: &[i64],
+    list: &mut [i32],
+    group: &mut [u8],
+    coefficients: &mut [i64],
+    counts: &mut [u64],
+) -> i64
+    ensures kept { λ r. ⌜ KeepsLentCertified n generators exchanges images list group coefficients counts r ⌝ }
+{
+    let answer = list_with_coefficients(
+        n,
+        generators,
+        exchanges,
+        images,
+        &mut *list,
+        &mut *group,
+        &mut *coefficients,
+    );
+    let result = report(counts, answer);
+    if result < 0 {
+        clear(list, 0);
+        clear_bytes(group, 0);
+        clear_coefficients(coefficients, 0);
         return result;
     }
     result

@@ -12,6 +12,8 @@ use Rattle.definitions.specs.Lists.{concat}
 use Rattle.definitions.specs.Vector.{Vector, within}
 use Rattle.definitions.specs.Group.{Exchange}
 use Rattle.definitions.specs.Completion.{completed, finalRows, running}
+use Rattle.definitions.specs.Completion as Defined
+use Rattle.definitions.specs.Certified.{certifiedCompleted}
 use Rattle.definitions.specs.Lent.{filled, vectorsOf, numbersOf, listRows}
 use Rattle.definitions.specs.Refusals.{accepted}
 use Rattle.definitions.specs.Calls.{Listing, listingOf}
@@ -21,18 +23,44 @@ use Rattle.theory.proofs.Areas.{filled-nothing, length-filled}
 use Rattle.theory.proofs.Accepted.{zeros-within}
 use Rattle.theory.proofs.Completion.{Sound, completed-sound}
 use Rattle.theory.proofs.Rows.{rows-count}
+use Rattle.certified_theory.proofs.Forgetting.{completed-plain}
 use Rattle.vectors.specs.Bounds.{headroom}
 use Rattle.admission.proofs.Tests.{rows-inside}
 use Rattle.reduction.specs.declared.Shape.{Shape}
-use Rattle.reduction.specs.Areas.{rowsAt, sequencesIn}
+use Rattle.reduction.specs.Areas.{Table, rowsAt, sequencesIn}
 use Rattle.reduction.specs.Marks.{RowsMarked}
+use Rattle.coefficients.proofs.Nothing.{nothing-closed, vectors-none, width-none}
+use Rattle.completion.specs.declared.Sizes.{Sizes}
 use Rattle.completion.specs.declared.State.{State}
+use Rattle.completion.specs.declared.Completion.{Completion}
 use Rattle.completion.specs.declared.Completion.the-variants as case
 use Rattle.completion.specs.Machine.{stateIn, sizesOf, completedIn, Areas, After}
+use Rattle.certified.specs.Noting.{CertifiedTo, Notable}
+use Rattle.certified.specs.Noting as Noting
 use Rattle.sorting.specs.Flags.{Finished}
 use Rattle.moves.specs.declared.Listed.the-variants as listed
 use Rattle.moves.specs.Found.{Grouped, listingWith, listedOf, Finds}
 use Rattle.moves.proofs.Ends.{finds-refused}
+
+-- ---- a completion that has no coefficients to note
+pub nothing-notable : {shape : Shape} {group : List ℕ} → Table shape group → (limit : ℕ) (basis coefficients : List ℤ)
+    → length basis ≡ 0 → Notable shape limit group basis coefficients
+nothing-notable {shape} {group} T limit basis coefficients e = record {
+  closed = nothing-closed T basis e;
+  room = omega (arith, ap (λ (k : ℕ). limit * k) (width-none (shape .n) basis e));
+}
+
+-- it is the completion
+pub plain-after : {table : List ℕ} {list : List ℤ} {marks keys : List ℕ} {coefficients : List ℤ} {r : Completion}
+    (sizes : Sizes) (generators basis : List ℤ) → length basis ≡ 0
+    → CertifiedTo (sizes .shape) table list marks keys basis coefficients (Noting.completedIn sizes table generators basis) r
+    → After (sizes .shape) table list marks keys (completedIn sizes table generators) r
+plain-after {table} {list} {marks} {keys} {r = r} sizes generators basis e C =
+    let n = sizes .shape .n in
+    let sequences = sequencesIn (sizes .shape) table in
+    subst (λ (c : Defined.Completion). After (sizes .shape) table list marks keys c r)
+    (ap (λ (b : List Vector). certifiedCompleted b sequences (sizes .limit) (vectorsOf n generators) .completion) (vectors-none n basis e)
+    ∙ completed-plain sequences (sizes .limit) (vectorsOf n generators)) (C .after)
 
 module _ {shape : Shape} {generators : List ℤ} {group : List ℕ} (G : Grouped shape generators group) (listSize limit : ℕ) (rows : limit ≡ listRows (shape .n) listSize) where
   abbrev n : ℕ

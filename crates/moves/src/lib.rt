@@ -14,6 +14,7 @@ ghost use Rattle.moves.specs.Found.{ChecksIn, Sized, broughtFaultIn, che
 use admission::Admission;
 use admission::admit;
 use admission::rows_up_to;
+use certified::complete;
 use completion::Completion;
 use completion::Sizes;
 use definitions::Answer;
@@ -29,10 +30,10 @@ use vectors::clear;
 use vectors::clear_bytes;
 
 // The marks of all images of all list rows.
-const MARKS: usize = LIST_LIMIT * GROUP_LIMIT;
+pub const MARKS: usize = LIST_LIMIT * GROUP_LIMIT;
 
 // The keys of images for which there is room; an image without a key is compared.
-const KEYS: usize = 8_192;
+pub const KEYS: usize = 8_192;
 
 // What a List finds: the numbers of its answer.
 enum Listed {
@@ -74,7 +75,17 @@ fn complete_list(generators: &[i32], list: &mut [i32], group: &[u8], shape: Shap
     let mut keys = [0u64; KEYS];
     let limit = rows_up_to(LIST_LIMIT, shape.n, list.len());
     let sizes = Sizes { shape, limit };
-    let c = completion::complete(generators, &mut *list, group, sizes, &mut marks, &mut keys);
+    let mut none = [0i64; 0];
+    let c = complete(
+        generators,
+        &mut *list,
+        group,
+        sizes,
+        &mut marks,
+        &mut keys,
+        &generators[..0],
+        &mut none,
+    );
     match c {
         Completion::Stopped { number, place } => Listed::Refused { number, place },
         Completion::Running(s) => {

@@ -11,7 +11,8 @@ use Rattle.definitions.specs.declared.Fault.{Fault}
 use Rattle.definitions.specs.declared.Fault.the-variants.{None, At}
 use Rattle.definitions.specs.Refusals.{Outcome, accepted, refused}
 use Rattle.definitions.specs.Calls.{Listing, Parts, checkEnd, listCall, listEnd, splitCall, splitEnd}
-use Rattle.theory.proofs.Refused.{Reported, check-answer-reported, list-answer-reported, split-answer-reported}
+use Rattle.theory.proofs.Refused.{Reported, check-answer-reported, list-answer-reported, reported-more}
+use Rattle.theory.proofs.Refused.{split-answer-reported}
 use Rattle.orders.specs.declared.Service.{Service}
 use Rattle.orders.specs.declared.Service.the-variants.{List as ListService, Split as SplitService}
 use Rattle.orders.specs.declared.Service.the-variants.{Check as CheckService}
@@ -129,5 +130,5 @@ served-reported service file number place e = go (case-of service file)
     go : Case service file → Reported 22 number place
     go (refuses a b q r) =
         let x = sym q ∙ e in
-        let y : a ≡ number = cc in let z : b ≡ place = cc in omega (arith, r .some, r .low, r .near)
+        let y : a ≡ number = cc in let z : b ≡ place = cc in reported-more (omega arith) y z r
     go (finds F) = absurd (found-other service file F (subst IsRefusal (sym e) tt))

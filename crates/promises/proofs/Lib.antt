@@ -8,4 +8,5 @@ pub mod Ends
 pub mod Calls
 pub mod Bounds
 pub mod Printing
+pub mod SentBack
 pub mod Examples

@@ -2,15 +2,19 @@
 // `stdout`, with which the check compares this, was not made by a run: the answers are those of the specification's
 // table, laid out by its section 9. The 15 rows of 14, which the table only counts, come from a search through all 3 by
 // 3 tables with zero sums and no entry past 3 (`minimal_tables` in tests/tables.py): the minimal ones, each with the
-// sign that makes it the greater of the two (2.6), sorted (2.7). 4ti2's `graver` gives the same.
+// sign that makes it the greater of the two (2.6), sorted (2.7). 4ti2's `graver` gives the same. 24 to 35 are Lists
+// with coefficients: behind the text of an accepted one come COEFFICIENTS, a line for each row, and END. Their lines in
+// `stdout` were made by tests/outside.py.
 ghost use mathlib.Core.Path.{_≡_};
 ghost use Prim.Native.Nat.{_≤_, _<_};
-ghost use Rattle.definitions.specs.Limits.{cells};
+ghost use lib.ListN.{length};
+ghost use Rattle.definitions.specs.Limits.{cells, generatorLimit};
 ghost use Rattle.answers.specs.Answers.{lineCount};
 use answers::lengths::TEXT_LIMIT;
 use definitions::Answer;
 use definitions::limits::CELLS;
 use definitions::limits::ENTRY_LIMIT;
+use definitions::limits::GENERATOR_LIMIT;
 use definitions::limits::GROUP_LIMIT;
 use definitions::limits::LENT_PIECES;
 use definitions::limits::LIST_LIMIT;
@@ -25,20 +29,36 @@ const GROUP_AREA: usize = GROUP_LIMIT * CELLS;
 // The pieces that programs lend.
 const PIECES_AREA: usize = LENT_PIECES * PIECE_WIDTH;
 
-// The generators of P2 and P7.
+// As many coefficients as those list rows have, for the most generators.
+const COEFFICIENTS_AREA: usize = LIST_LIMIT * GENERATOR_LIMIT;
+
+// Room for a number of 64 bits and its sign.
+const NUMBER: usize = 20;
+
+// The generators of P2, P7 and 24.
 const GENERATORS_2: [i32; 2] = [2, 3];
 
-// The generators of P3, P12 and P17 to P22.
+// The generators of P3, P12, P17 to P22 and 25.
 const GENERATORS_3: [i32; 6] = [1, -1, 0, 0, 1, -1];
 
-// The generators of P4 and P5.
+// The generators of P4, P5 and 26.
 const GENERATORS_4: [i32; 9] = [1, 0, -1, 2, -1, 0, 0, -1, 2];
 
 // The generators of P15 and P16.
 const GENERATORS_15: [i32; 4] = [2, -2, 3, 0];
 
-// The exchange of P4 and P5.
+// The generators of 32: the row (0,0,0,1) takes the first a million times.
+const GENERATORS_32: [i32; 16] = [1, 0, 0, 0, 100, 1, 0, 0, 0, 100, 1, 0, 0, 0, 100, 1];
+
+// The generators of 33 and 34: it takes the first more often.
+const GENERATORS_33: [i32; 16] = [1, 0, 0, 0, 100, 1, 0, 0, 0, 100, 1, 0, 0, 0, 101, 1];
+
+// The exchange of P4, P5, 26 and 31.
 const EXCHANGE_4: [u8; 3] = [3, 2, 1];
+
+// The exchanges of 13 and 35: the swap of rows 0 and 1, the swap of rows 1 and 2, and the transposition.
+const EXCHANGES_13: [u8; 27] =
+    *b"\x04\x05\x06\x01\x02\x03\x07\x08\x09\x01\x02\x03\x07\x08\x09\x04\x05\x06\x01\x04\x07\x02\x05\x08\x03\x06\x09";
 
 // The exchange of P17 to P20 and P22.
 const EXCHANGE_17: [u8; 3] = [2, 3, 1];
@@ -181,6 +201,102 @@ fn check(
     show(name, answer, rows, 1);
 }
 
+// Prints a number. The test is always met.
+fn show_number(z: i64) {
+    let mut text = [0u8; NUMBER];
+    let end = answers::put_integer(&mut text, 0, z);
+    if end <= NUMBER {
+        io::write_all(1, &text[..end]);
+    }
+}
+
+// Prints a coefficient, and what stands behind it.
+fn show_coefficient(z: i64, last: bool) {
+    show_number(z);
+    if last {
+        io::write_all(1, b"\n");
+    } else {
+        io::write_all(1, b" ");
+    }
+}
+
+// Prints coefficient i, if it is one of the first rows, which have `width` each.
+fn show_at(coefficients: &[i64], i: usize, width: usize, rows: usize)
+    requires entry { ⌜ i < length (now coefficients) ⌝ }
+    requires some { ⌜ 1 ≤ width ⌝ }
+{
+    if i / width < rows {
+        let next = i + 1;
+        show_coefficient(coefficients[i], next % width == 0);
+    }
+}
+
+// Prints the coefficients of the first rows, a line of `width` for each.
+fn show_coefficients(coefficients: &[i64], width: usize, rows: usize)
+    requires some { ⌜ 1 ≤ width ⌝ }
+{
+    io::write_all(1, b"COEFFICIENTS\n");
+    let mut i = 0;
+    while i < coefficients.len() {
+        show_at(coefficients, i, width, rows);
+        i += 1;
+    }
+    io::write_all(1, b"END\n");
+}
+
+// A List with coefficients of m generators on these areas.
+fn with_coefficients_in(
+    name: &[u8],
+    n: usize,
+    m: usize,
+    generators: &[i32],
+    exchanges: &[u8],
+    list: &mut [i32],
+    group: &mut [u8],
+    coefficients: &mut [i64],
+)
+    requires some { ⌜ 1 ≤ n ⌝ }
+    requires counted { ⌜ 1 ≤ m ⌝ }
+{
+    let answer = certified_lists::list_with_coefficients(
+        n,
+        generators,
+        exchanges,
+        &NO_IMAGES,
+        &mut *list,
+        &mut *group,
+        &mut *coefficients,
+    );
+    show(name, answer, &*list, n);
+    let rows = line_count(answer) as usize;
+    if 0 < rows {
+        show_coefficients(&*coefficients, m, rows);
+    }
+}
+
+// A List with coefficients of m generators, on the areas that programs lend and as many coefficients.
+fn with_coefficients(name: &[u8], n: usize, m: usize, generators: &[i32], exchanges: &[u8])
+    requires sized { ⌜ (1 ≤ n) × (n ≤ cells) ⌝ }
+    requires counted { ⌜ (1 ≤ m) × (m ≤ generatorLimit) ⌝ }
+{
+    let mut list = [0i32; LIST_AREA];
+    let mut group = [0u8; GROUP_AREA];
+    let mut coefficients = [0i64; COEFFICIENTS_AREA];
+    let rows = LIST_LIMIT * n;
+    let table = GROUP_LIMIT * n;
+    let numbers = LIST_LIMIT * m;
+    with_coefficients_in(
+        name,
+        n,
+        m,
+        generators,
+        exchanges,
+        &mut list[..rows],
+        &mut group[..table],
+        &mut coefficients[..numbers],
+    );
+}
+
 // ---- samples
 
 // P1: no generators.
@@ -318,16 +434,10 @@ fn nine_moves() -> [i32; 81] {
     generators
 }
 
-// 13: the moves of the 3 by 3 table, with the swap of rows 0 and 1, the swap of rows 1 and 2, and the transposition.
+// 13: the moves of the 3 by 3 table, with three exchanges.
 fn s13() {
     let generators = nine_moves();
-    list(
-        b"13\n",
-        9,
-        &generators,
-        b"\x04\x05\x06\x01\x02\x03\x07\x08\x09\x01\x02\x03\x07\x08\x09\x04\x05\x06\x01\x04\x07\x02\x05\x08\x03\x06\x09",
-        &NO_IMAGES,
-    );
+    list(b"13\n", 9, &generators, &EXCHANGES_13, &NO_IMAGES);
 }
 
 // 14: the moves of the 3 by 3 table without exchanges.
@@ -484,6 +594,103 @@ fn s23() {
     );
 }
 
+// 24: P2 with coefficients.
+fn s24() {
+    with_coefficients(b"24\n", 1, 2, &GENERATORS_2, b"");
+}
+
+// 25: P3 with coefficients.
+fn s25() {
+    with_coefficients(b"25\n", 3, 2, &GENERATORS_3, b"");
+}
+
+// 26: P4 with coefficients.
+fn s26() {
+    with_coefficients(b"26\n", 3, 3, &GENERATORS_4, &EXCHANGE_4);
+}
+
+// 27: (1) is stored from (−1), whose image is negated and not looked up anew.
+fn s27() {
+    let generators = [-1i32, 1];
+    with_coefficients(b"27\n", 1, 2, &generators, b"");
+}
+
+// 28: of equal generators the lowest counts.
+fn s28() {
+    let generators = [1i32, 1, -1];
+    with_coefficients(b"28\n", 1, 3, &generators, b"");
+}
+
+// 29: (2,−2) is stored from (−2,2) at position 0, negated, though position 1 makes it too.
+fn s29() {
+    let generators = [2i32, 2, -2, 2, 2, -2];
+    let exchanges = [2u8, 1];
+    with_coefficients(b"29\n", 2, 3, &generators, &exchanges);
+}
+
+// 30: the exchange makes of each generator the negative of the other.
+fn s30() {
+    let generators = [1i32, -2, 2, -1];
+    let exchanges = [2u8, 1];
+    with_coefficients(b"30\n", 2, 2, &generators, &exchanges);
+}
+
+// 31: (1,0,−1) is its own image at position 0, and at position 1 the negative of the last generator.
+fn s31() {
+    let generators = [1i32, 0, -1, 2, -2, -2, -2, -2, 2, -1, 0, 1];
+    with_coefficients(b"31\n", 3, 4, &generators, &EXCHANGE_4);
+}
+
+// A List with coefficients of four generators, on seven list rows.
+fn in_seven_rows(name: &[u8], generators: &[i32]) {
+    let mut list = [0i32; 28];
+    let mut group = [0u8; 4];
+    let mut coefficients = [0i64; 28];
+    with_coefficients_in(
+        name,
+        4,
+        4,
+        generators,
+        b"",
+        &mut list,
+        &mut group,
+        &mut coefficients,
+    );
+}
+
+// 32: a coefficient at its limit, and as many list rows as are stored.
+fn s32() {
+    in_seven_rows(b"32\n", &GENERATORS_32);
+}
+
+// 33: a coefficient past its limit.
+fn s33() {
+    in_seven_rows(b"33\n", &GENERATORS_33);
+}
+
+// 34: 33 with one list row less: 13 at the same sum.
+fn s34() {
+    let mut list = [0i32; 24];
+    let mut group = [0u8; 4];
+    let mut coefficients = [0i64; 24];
+    with_coefficients_in(
+        b"34\n",
+        4,
+        4,
+        &GENERATORS_33,
+        b"",
+        &mut list,
+        &mut group,
+        &mut coefficients,
+    );
+}
+
+// 35: 13 with coefficients.
+fn s35() {
+    let generators = nine_moves();
+    with_coefficients(b"35\n", 9, 9, &generators, &EXCHANGES_13);
+}
+
 // Every sample, line by line of the table.
 fn main() {
     p1();
@@ -509,4 +716,16 @@ fn main() {
     p21();
     p22();
     s23();
+    s24();
+    s25();
+    s26();
+    s27();
+    s28();
+    s29();
+    s30();
+    s31();
+    s32();
+    s33();
+    s34();
+    s35();
 }

@@ -45,7 +45,7 @@ sums-few {g} {k} h l = mul-le-mul (mul-le-mul h l) more
 
 -- the last number
 abbrev pub lastNumber : ℕ
-lastNumber = 23
+lastNumber = 24
 
 -- a refusal that may be reported, by a call whose own last number is `last`; past that there is 23 alone
 pub record Reported (last number place : ℕ) : Type 0 where
@@ -55,7 +55,7 @@ pub record Reported (last number place : ℕ) : Type 0 where
   pub near : place ≤ placeLimit
 
 -- the same, of a call with more numbers
-reported-more : {last more number place a b : ℕ} → last ≤ more → a ≡ number → b ≡ place → Reported last a b → Reported more number place
+pub reported-more : {last more number place a b : ℕ} → last ≤ more → a ≡ number → b ≡ place → Reported last a b → Reported more number place
 reported-more h y z r = record { some = omega arith; low = omega arith; own = λ k. omega (arith, r .own (omega arith)); near = omega arith }
 
 -- ---- 11, or 23 in its place
@@ -105,7 +105,7 @@ order-said order groupSize last h S Z =
     (λ e. said-end (Reported last)))
 
 -- ---- 5 to 11
-admission-said : (order : Order) (groupSize : ℕ) (fits : Bool) (last : ℕ) → 13 ≤ last → Said (Reported last) (admissionFault order groupSize fits)
+pub admission-said : (order : Order) (groupSize : ℕ) (fits : Bool) (last : ℕ) → 13 ≤ last → Said (Reported last) (admissionFault order groupSize fits)
 unfolding admissionFault cellsFault sizeFault
 admission-said order groupSize fits last h =
     said-first _ (said-if 5 _ (omega arith))
@@ -114,7 +114,7 @@ admission-said order groupSize fits last h =
     (λ g. said-end (Reported last))))
 
 -- an order that meets none of 5 to 11 has a group
-table-some : (order : Order) (groupSize : ℕ) → cellsFault (order .n) ≡ None → orderFault order groupSize ≡ None → 0 < length (tableOf order groupSize)
+pub table-some : (order : Order) (groupSize : ℕ) → cellsFault (order .n) ≡ None → orderFault order groupSize ≡ None → 0 < length (tableOf order groupSize)
 table-some order groupSize e f = let G = order-generators order groupSize f in table-positive (order-symmetric order groupSize e f) (G .0) (G .1)
 
 -- ---- List

@@ -5,6 +5,7 @@ use mathlib.Core.List.{List}
 use Prim.Native.Nat.{ℕ, zero, suc, _+_, _<_}
 use native.Mathlib.Omega.{arith}
 use lib.ListN.{length}
+use Rattle.definitions.specs.Lists.{until}
 use Rattle.definitions.specs.Vector.{Vector}
 use Rattle.definitions.specs.Group.{Exchange}
 use Rattle.definitions.specs.Completion.{Completion, begun, completed, isOver, remainder, run, running, settled, step, stopped, sumAt, sumCount}
@@ -27,7 +28,7 @@ steps-over table limit zero c e = refl
 steps-over table limit (suc count) c e = ap (steps table limit count) (step-over table limit c e) ∙ steps-over table limit count c e
 
 pub run-steps : (table : List Exchange) (limit fuel : ℕ) (c : Completion) → run table limit fuel c ≡ steps table limit fuel c
-unfolding run
+unfolding run until
 run-steps table limit zero c = refl
 run-steps table limit (suc fuel) c = go (isOver c) refl (run-steps table limit fuel (step table limit c))
   where

@@ -155,7 +155,7 @@ filled w₀ p i e h k =
 
 -- ---- sums and negatives, by the cell
 
-plus-at : (u v : Vector) (i : ℕ) → i < length u → i < length v → cellAt (plus u v) i ≡ cellAt u i +ℤ cellAt v i
+pub plus-at : (u v : Vector) (i : ℕ) → i < length u → i < length v → cellAt (plus u v) i ≡ cellAt u i +ℤ cellAt v i
 unfolding plus
 plus-at [] v i h k = none-below h
 plus-at (a ∷ u) [] i h k = none-below k

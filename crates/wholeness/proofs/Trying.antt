@@ -29,7 +29,7 @@ use Rattle.reduction.proofs.Lent.{sequences-count}
 use Rattle.completion.specs.declared.State.{State}
 use Rattle.completion.specs.Machine.{Advanced, Countable, Summable, countable, firstAt, remainderIn, stateOf}
 use Rattle.completion.proofs.Facts.{sums-small}
-use Rattle.completion.proofs.Sums.{rest-repeated}
+use Rattle.completion.proofs.Sums.{rest-repeated, summable-by}
 use Rattle.wholeness.specs.Lists.{Brought, Ready, triedFault}
 use Rattle.wholeness.proofs.Given.{rows-ready, rows-same}
 
@@ -137,13 +137,9 @@ module _ {shape : Shape} {table : List ℕ} {rows : List ℤ} (B : Brought shape
 
       -- what `try_sum` asks
       pub trying-summable : {marks keys : List ℕ} → Ready shape table rows marks keys → Summable shape table rows marks keys s
-      trying-summable R = record {
-        ready = rows-ready R (s .stored) (T .held);
-        entries = subst (Each (Within entryLimit)) (sym rows-held) (B .entries);
-        iIn = omega (arith, T .held);
-        jIn = T .counted .jIn;
-        positionIn = position-in;
-      }
+      trying-summable R =
+          summable-by (rows-ready R (s .stored) (T .held)) (subst (Each (Within entryLimit)) (sym rows-held) (B .entries))
+          (omega (arith, T .held)) (T .counted .jIn) position-in
 
       -- a sum whose image has the mark 0 has remainder zero
       pub trying-repeated : {marks keys : List ℕ} → Ready shape table rows marks keys

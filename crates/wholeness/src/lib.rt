@@ -11,6 +11,7 @@ ghost use Rattle.reduction.specs.Areas.{sequencesIn};
 ghost use Rattle.reduction.specs.Marks.{Marked};
 ghost use Rattle.wholeness.specs.Lists.{Brought, Ready, generatorsFault, listFault, othersFault};
 ghost use Rattle.wholeness.specs.Lists.{triedFault, wholenessIn};
+use coefficients::reduce;
 use completion::first;
 use completion::is_repeated_sum;
 use completion::next;
@@ -20,7 +21,6 @@ use reduction::Extent;
 use reduction::Shape;
 use reduction::images::has_other_below;
 use reduction::mark_row;
-use reduction::reduce;
 use vectors::is_zero;
 use vectors::vector_at;
 

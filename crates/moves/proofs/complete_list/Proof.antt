@@ -1,5 +1,5 @@
 -- `complete_list` meets its contract: the list area is cleared, and then steps 1 to 5. Assumes nothing.
-use mathlib.Core.Path.{_≡_, _∙_, ap}
+use mathlib.Core.Path.{_≡_, refl, _∙_, ap}
 use mathlib.Core.List.{[]}
 use Prim.Native.Nat.{ℕ, _/_, min}
 use native.Mathlib.Omega.{arith}
@@ -8,8 +8,10 @@ use lib.ListN.{length}
 use Rattle.definitions.specs.Limits.{listLimit}
 use Rattle.definitions.specs.Lent.{filled, listRows}
 use Rattle.theory.proofs.Areas.{length-filled}
-use Rattle.completion.proofs.Turns.{after-is}
+use Rattle.certified.proofs.Turns.{after-is}
+use Rattle.completion.specs.Machine.{After, completedIn, sizesOf}
 use Rattle.moves.proofs.Steps.{few, cleared-areas, steps-stopped, stored-few, stored-marked, steps-ended}
+use Rattle.moves.proofs.Steps.{nothing-notable, plain-after}
 use borrow.Author.Needs.{needs}
 use Rattle.moves.proofs.complete_list.Statement.{statement}
 use Rattle.moves.proofs.complete_list.Tie as tie
@@ -34,9 +36,20 @@ module _ (c : tie.After-rows-up-to) where
 
 -- the list area keeps its length
 kept : (c : tie.After-complete) →
-    let u = c .before .before .before .before in
+    let u = c .before .before .before .before .before .before in
     length (c .complete .last .1 .0) ≡ size u
-kept c = c .complete .kept .1 .0 ∙ long (c .before .before .before .before)
+kept c = c .complete .kept .1 .0 ∙ long (c .before .before .before .before .before .before)
+
+-- it comes to the completion, with no coefficients to note
+completes : (c : tie.After-complete) →
+    let u = c .before .before .before .before .before .before in
+    After (start u .args .shape) (start u .args .group .now) (c .complete .last .1 .0) (c .complete .last .1 .1 .1 .1 .0)
+    (c .complete .last .1 .1 .1 .1 .1 .0)
+    (completedIn (sizesOf (start u .args .shape) (u .rows-up-to .result)) (start u .args .group .now) (start u .args .generators .now))
+    (c .complete .result)
+completes c =
+    let u = c .before .before .before .before .before .before in
+    plain-after (sizesOf (start u .args .shape) (u .rows-up-to .result)) (start u .args .generators .now) _ refl (c .complete .ensures)
 
 clear-requires : tie.Need-clear-requires
 clear-requires c κs = search needs
@@ -50,11 +63,22 @@ slice-aggregate-complete c = search needs
 slice-aggregate-complete-2 : tie.Need-slice-aggregate-complete-2
 slice-aggregate-complete-2 c = search needs
 
+slice-aggregate-complete-3 : tie.Need-slice-aggregate-complete-3
+slice-aggregate-complete-3 c = search needs
+
+slice-aggregate-complete-4 : tie.Need-slice-aggregate-complete-4
+slice-aggregate-complete-4 c = search needs
+
 complete-requires : tie.Need-complete-requires
 complete-requires c κs =
-    let u = c .before .before .before in
-    let s = start u in
-    (cleared-areas (s .pre) (size u) (u .rows-up-to .result) (limit-is u) (cleared u) (omega arith), s .pre .admissible)
+    let u = c .before .before .before .before .before in
+    let s = start u in (
+      cleared-areas (s .pre) (size u) (u .rows-up-to .result) (limit-is u) (cleared u) (omega arith),
+      (
+        s .pre .admissible,
+        (λ h. absurd (omega (arith, h)), nothing-notable (s .pre .table) (u .rows-up-to .result) _ _ refl),
+      ),
+    )
 
 enum-known-c : tie.Need-enum-known-c
 enum-known-c c = search needs
@@ -74,10 +98,10 @@ slice-aggregate-finish-3 c = search needs
 finish-requires : tie.Need-finish-requires
 finish-requires c κs =
     let k = c .before .before .before .before .before in
-    let m = k .before .before .before .before .before in
-    let u = m .before .before .before .before in
+    let m = k .before .before .before .before .before .before in
+    let u = m .before .before .before .before .before .before in
     let s = start u in
-    let A = after-is (m .complete .ensures) (k .c2 .given .1) in
+    let A = after-is (completes m) (k .c2 .given .1) in
     let limit = u .rows-up-to .result in (
       stored-marked (s .pre) (size u) limit (limit-is u) (k .c2 .given .0 .0) A (kept m) (omega (arith, m .complete .kept .1 .1 .1 .1 .0)),
       omega (arith, stored-few (s .pre) (size u) limit (limit-is u) (k .c2 .given .0 .0) A (kept m), few (s .pre) (size u) limit (limit-is u)),
@@ -88,9 +112,9 @@ same-length c = search needs
 
 returns : tie.Need-returns
 returns c =
-    let m = c .before .before .before .before .before .before in
-    let u = m .before .before .before .before in
-    steps-stopped (start u .pre) (size u) (u .rows-up-to .result) (limit-is u) _ _ (after-is (m .complete .ensures) (c .before .c .given .1))
+    let m = c .before .before .before .before .before .before .before in
+    let u = m .before .before .before .before .before .before in
+    steps-stopped (start u .pre) (size u) (u .rows-up-to .result) (limit-is u) _ _ (after-is (completes m) (c .before .c .given .1))
 
 same-length-2 : tie.Need-same-length-2
 same-length-2 c = search needs
@@ -99,10 +123,10 @@ returns-2 : tie.Need-returns-2
 returns-2 c =
     let f = c .before .before in
     let k = f .before .before .before .before .before .before in
-    let m = k .before .before .before .before .before in
-    let u = m .before .before .before .before in
+    let m = k .before .before .before .before .before .before in
+    let u = m .before .before .before .before .before .before in
     let s = start u in
-    let A = after-is (m .complete .ensures) (k .c2 .given .1) in
+    let A = after-is (completes m) (k .c2 .given .1) in
     steps-ended (s .pre) (size u) (u .rows-up-to .result) (limit-is u) (k .c2 .given .0 .0) A (kept m) (f .finish .result) (f .finish .ensures)
 
 pub complete-list-spec : {M : Type 1} → statement M
@@ -113,6 +137,8 @@ complete-list-spec =
     rows-up-to-requires
     slice-aggregate-complete
     slice-aggregate-complete-2
+    slice-aggregate-complete-3
+    slice-aggregate-complete-4
     complete-requires
     enum-known-c
     enum-known-c-2

@@ -1,0 +1,1 @@
+// Theorems over the definitions of lists with coefficients: lemma files in proofs/, no code.
