@@ -142,8 +142,8 @@ size_t sukoreta_answer_limit(void);
  *             24    after 12 and 13: a row is to be stored and a coefficient of it is past +-1,000,000; the place is
  *                   the number of sums tried, this one counted
  *
- * Stack: a lent call takes about 252,000 bytes, a call on an order file up to 365,000. No memory is allocated, and
- * nothing is kept from one call to the next: calls in several threads need no lock.
+ * Stack: a lent call takes about 252,000 bytes, List with coefficients 325,000, a call on an order file up to 365,000.
+ * No memory is allocated, and nothing is kept from one call to the next: calls in several threads need no lock.
  */
 int64_t sukoreta_lent_list(size_t n, const int32_t *generators, size_t generators_length, const uint8_t *exchanges,
                            size_t exchanges_length, const int64_t *images, size_t images_length, int32_t *list,

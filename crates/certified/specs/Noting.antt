@@ -12,8 +12,9 @@ use Rattle.definitions.specs.Vector.{Vector, isMember, within}
 use Rattle.definitions.specs.Group.{Exchange}
 use Rattle.definitions.specs.Orbit.{orbit, representative}
 use Rattle.definitions.specs.Completion.{running, storedRows, sumCount}
-use Rattle.definitions.specs.Certified.{Certified, CertifiedCompletion, certifiedBegun, certifiedCompleted, certifiedRow}
-use Rattle.definitions.specs.Certified.{certifiedStep, certifiedSum, countedAs, isOverCertified, newCoefficients}
+use Rattle.definitions.specs.Certified.{Certified, CertifiedCompletion, certifiedBegun, certifiedCompleted}
+use Rattle.definitions.specs.Certified.{certifiedRow, certifiedStep, certifiedSum, countedAs, isOverCertified}
+use Rattle.definitions.specs.Certified.{newCoefficients}
 use Rattle.definitions.specs.Lent.{chunks, vectorsOf}
 use Rattle.theory.proofs.Members.{Each}
 use Rattle.theory.proofs.Bounds.{Within}
@@ -68,8 +69,8 @@ pub record RowStored (shape : Shape) (table : List ℕ) (list : List ℤ) (marks
   pub made : RowsMade (sequencesIn shape table)
 
 -- .. and r says whether its coefficients, which are noted behind the others, are within their limit
-pub record RowNoted (shape : Shape) (table : List ℕ) (list basis : List ℤ) (s : State) (coefficients coefficients′ : List ℤ)
-    (r : Bool) : Type 0 where
+pub record RowNoted (shape : Shape) (table : List ℕ) (list basis : List ℤ) (s : State)
+    (coefficients coefficients′ : List ℤ) (r : Bool) : Type 0 where
   pub told : r ≡ within storedCoefficientLimit (newIn shape table list basis coefficients s)
   pub rows : notedIn (shape .n) basis (s .stored + 1) coefficients′
       ≡ notedIn (shape .n) basis (s .stored) coefficients ++ newIn shape table list basis coefficients s ∷ []
@@ -149,7 +150,7 @@ NotedBy n basis coefficients due (Running s) = NotedRows n basis (s .stored) coe
 NotedBy n basis coefficients due (Stopped number place) = Unit {0}
 
 -- the areas after a completion came to r, which is x of the definition
-pub record CertifiedTo (shape : Shape) (table : List ℕ) (list : List ℤ) (marks keys : List ℕ) (basis coefficients : List ℤ)
-    (x : CertifiedCompletion) (r : Completion) : Type 0 where
+pub record CertifiedTo (shape : Shape) (table : List ℕ) (list : List ℤ) (marks keys : List ℕ)
+    (basis coefficients : List ℤ) (x : CertifiedCompletion) (r : Completion) : Type 0 where
   pub after : After shape table list marks keys (x .completion) r
   pub noted : NotedBy (shape .n) basis coefficients (x .coefficients) r

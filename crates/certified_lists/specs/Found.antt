@@ -84,8 +84,8 @@ pub record NotedRows (extent : Extent) (m : ℕ) (group : List ℕ) (list : List
   pub room : length list / extent .shape .n * m ≤ length coefficients
 
 -- the rows that stay were sorted, and their coefficients put beside them
-pub record Arranged (extent : Extent) (m : ℕ) (group : List ℕ) (list noted list′ coefficients′ : List ℤ) (count size : ℕ)
-    : Type 0 where
+pub record Arranged (extent : Extent) (m : ℕ) (group : List ℕ) (list noted list′ coefficients′ : List ℤ)
+    (count size : ℕ) : Type 0 where
   pub finished : Finished extent group list list′ count
   pub arranged : (let table = sequencesIn (extent .shape) group in
       let due = finalCoefficients table (rowsInUse extent list) (chunks m (extent .k) noted) in

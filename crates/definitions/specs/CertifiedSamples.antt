@@ -30,8 +30,8 @@ abbrev +_ : ℕ → ℤ
 abbrev −_ : ℕ → ℤ
 − k = negℤ (pos k)
 
--- the line of an order of m generators: the answer, and in their areas the rows, the exchanges and the coefficients, with
--- zeros behind them
+-- the line of an order of m generators: the answer, and in their areas the rows, the exchanges and the coefficients,
+-- with zeros behind them
 line : Order → (m listRows groupRows : ℕ) → Answer → (rows : List ℤ) (table : List ℕ) (coefficients : List ℤ)
     → CertifiedSample
 line order m listRows groupRows answer rows table coefficients =
@@ -47,6 +47,11 @@ line order m listRows groupRows answer rows table coefficients =
       };
     }
 
+-- the generators of P32 to P34: each has 1 in a cell of its own, and a factor in the cell of the one before
+abbrev chain : (last : ℕ) → List ℤ
+chain last =
+    + 1 ∷ + 0 ∷ + 0 ∷ + 0 ∷ + 100 ∷ + 1 ∷ + 0 ∷ + 0 ∷ + 0 ∷ + 100 ∷ + 1 ∷ + 0 ∷ + 0 ∷ + 0 ∷ + last ∷ + 1 ∷ []
+
 unfoldable pub certifiedSamples : List CertifiedSample
 unfolding line
 certifiedSamples =
@@ -61,7 +66,8 @@ certifiedSamples =
     (1 ∷ 2 ∷ 3 ∷ [])
     (+ 1 ∷ + 1 ∷ + 1 ∷ + 0 ∷ + 0 ∷ + 1 ∷ [])
     -- P26: P4, the order of the sample file
-    ∷ line (orderOf 3 (+ 1 ∷ + 0 ∷ − 1 ∷ + 2 ∷ − 1 ∷ + 0 ∷ + 0 ∷ − 1 ∷ + 2 ∷ []) (3 ∷ 2 ∷ 1 ∷ []) []) 3 3 2 (Moves 3 2 3 24)
+    ∷ line (orderOf 3 (+ 1 ∷ + 0 ∷ − 1 ∷ + 2 ∷ − 1 ∷ + 0 ∷ + 0 ∷ − 1 ∷ + 2 ∷ [])
+    (3 ∷ 2 ∷ 1 ∷ []) []) 3 3 2 (Moves 3 2 3 24)
     (+ 1 ∷ + 0 ∷ − 1 ∷ + 2 ∷ − 1 ∷ + 0 ∷ + 1 ∷ − 1 ∷ + 1 ∷ [])
     (1 ∷ 2 ∷ 3 ∷ 3 ∷ 2 ∷ 1 ∷ [])
     (+ 1 ∷ + 0 ∷ + 0 ∷ + 0 ∷ + 1 ∷ + 0 ∷ − 1 ∷ + 1 ∷ + 0 ∷ [])
@@ -85,24 +91,26 @@ certifiedSamples =
     (+ 2 ∷ − 1 ∷ + 1 ∷ + 1 ∷ + 3 ∷ + 0 ∷ [])
     (1 ∷ 2 ∷ 2 ∷ 1 ∷ [])
     (+ 0 ∷ + 1 ∷ − 1 ∷ + 1 ∷ − 1 ∷ + 2 ∷ [])
-    -- P31: (1,0,−1), (2,−2,−2), (−2,−2,2), (−1,0,1), exchange 3 2 1: an image that is subtracted has the coefficients of
-    -- its earliest position
-    ∷ line (orderOf 3 (+ 1 ∷ + 0 ∷ − 1 ∷ + 2 ∷ − 2 ∷ − 2 ∷ − 2 ∷ − 2 ∷ + 2 ∷ − 1 ∷ + 0 ∷ + 1 ∷ []) (3 ∷ 2 ∷ 1 ∷ []) []) 4 3 2 (Moves 2 2 3 24)
+    -- P31: (1,0,−1), (2,−2,−2), (−2,−2,2), (−1,0,1), exchange 3 2 1: an image that is subtracted has the coefficients
+    -- of its earliest position
+    ∷ line (orderOf 3 (+ 1 ∷ + 0 ∷ − 1 ∷ + 2 ∷ − 2 ∷ − 2 ∷ − 2 ∷ − 2 ∷ + 2 ∷ − 1 ∷ + 0 ∷ + 1 ∷ [])
+    (3 ∷ 2 ∷ 1 ∷ []) []) 4 3 2 (Moves 2 2 3 24)
     (+ 1 ∷ + 0 ∷ − 1 ∷ + 0 ∷ + 2 ∷ + 0 ∷ [])
     (1 ∷ 2 ∷ 3 ∷ 3 ∷ 2 ∷ 1 ∷ [])
     (+ 1 ∷ + 0 ∷ + 0 ∷ + 0 ∷ − 2 ∷ + 0 ∷ − 1 ∷ + 0 ∷ [])
     -- P32: (1,0,0,0), (100,1,0,0), (0,100,1,0), (0,0,100,1): a coefficient of 1,000,000 is stored
-    ∷ line (orderOf 4 (+ 1 ∷ + 0 ∷ + 0 ∷ + 0 ∷ + 100 ∷ + 1 ∷ + 0 ∷ + 0 ∷ + 0 ∷ + 100 ∷ + 1 ∷ + 0 ∷ + 0 ∷ + 0 ∷ + 100 ∷ + 1 ∷ []) [] []) 4 7 1 (Moves 4 1 7 56)
+    ∷ line (orderOf 4 (chain 100) [] []) 4 7 1 (Moves 4 1 7 56)
     (+ 1 ∷ + 0 ∷ + 0 ∷ + 0 ∷ + 0 ∷ + 1 ∷ + 0 ∷ + 0 ∷ + 0 ∷ + 0 ∷ + 1 ∷ + 0 ∷ + 0 ∷ + 0 ∷ + 0 ∷ + 1 ∷ [])
     (1 ∷ 2 ∷ 3 ∷ 4 ∷ [])
-    (+ 1 ∷ + 0 ∷ + 0 ∷ + 0 ∷ − 100 ∷ + 1 ∷ + 0 ∷ + 0 ∷ + 10000 ∷ − 100 ∷ + 1 ∷ + 0 ∷ − 1_000_000 ∷ + 10000 ∷ − 100 ∷ + 1 ∷ [])
+    (+ 1 ∷ + 0 ∷ + 0 ∷ + 0 ∷ − 100 ∷ + 1 ∷ + 0 ∷ + 0 ∷ + 10000 ∷ − 100 ∷ + 1 ∷ + 0
+    ∷ − 1_000_000 ∷ + 10000 ∷ − 100 ∷ + 1 ∷ [])
     -- P33: P32 with 101 for the last 100: 1,010,000 is not
-    ∷ line (orderOf 4 (+ 1 ∷ + 0 ∷ + 0 ∷ + 0 ∷ + 100 ∷ + 1 ∷ + 0 ∷ + 0 ∷ + 0 ∷ + 100 ∷ + 1 ∷ + 0 ∷ + 0 ∷ + 0 ∷ + 101 ∷ + 1 ∷ []) [] []) 4 7 1 (Refused 24 18)
+    ∷ line (orderOf 4 (chain 101) [] []) 4 7 1 (Refused 24 18)
     []
     []
     []
     -- P34: P33 with 6 list rows: 13 comes before it
-    ∷ line (orderOf 4 (+ 1 ∷ + 0 ∷ + 0 ∷ + 0 ∷ + 100 ∷ + 1 ∷ + 0 ∷ + 0 ∷ + 0 ∷ + 100 ∷ + 1 ∷ + 0 ∷ + 0 ∷ + 0 ∷ + 101 ∷ + 1 ∷ []) [] []) 4 6 1 (Refused 13 18)
+    ∷ line (orderOf 4 (chain 101) [] []) 4 6 1 (Refused 13 18)
     []
     []
     []

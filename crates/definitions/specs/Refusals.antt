@@ -1,4 +1,5 @@
--- Specification 7: the table of refusals, for lent calls. 12 and 13 are in Completion, 24 in Certified. Assumes nothing.
+-- Specification 7: the table of refusals, for lent calls. 12 and 13 are in Completion, 24 in Certified. Assumes
+-- nothing.
 use mathlib.Core.Bool.{Bool, false, _&&_, _||_, not}
 use mathlib.Core.List.{List, [], _∷_, _++_, map}
 use Prim.Native.Nat.{ℕ, zero, suc, _+_, _*_, _/_}
