@@ -3,7 +3,7 @@
 use mathlib.Core.Path.{_≡_, refl, sym, _∙_, ap, subst}
 use mathlib.Core.Logic.{_⊎_, inl, inr}
 use mathlib.Core.Bool.{Bool, true, false, cond, _||_}
-use mathlib.Core.List.{List, [], _∷_, _++_, map}
+use mathlib.Core.List.{List, [], _∷_, _++_}
 use Prim.Native.Nat.{ℕ, _+_, _*_, _/_, _≤_, _<_}
 use native.Mathlib.Decide.{decLt}
 use native.Mathlib.Nat.{mul-le-mul-right, zero-div}
@@ -15,14 +15,14 @@ use lib.ListN.{length, getD, take, drop, length-append}
 use lib.Seq.{getD-at}
 use Rattle.definitions.specs.Limits.{storedCoefficientLimit}
 use Rattle.definitions.specs.Lists.{every}
-use Rattle.definitions.specs.Vector.{Vector, padded, within}
+use Rattle.definitions.specs.Vector.{Vector, within}
 use Rattle.definitions.specs.Group.{Exchange}
 use Rattle.definitions.specs.Orbit.{representative}
 use Rattle.definitions.specs.Completion.{isFinished, running, stopped}
 use Rattle.definitions.specs.Completion as Defined
 use Rattle.definitions.specs.Certified.{CertifiedCompletion, certifiedAfter, certifiedFrom, certifiedStep}
 use Rattle.definitions.specs.Certified.{newCoefficients, noted}
-use Rattle.definitions.specs.Lent.{chunks, rowsOf, vectorsOf}
+use Rattle.definitions.specs.Lent.{chunks, vectorsOf}
 use Rattle.theory.proofs.Tests.{or-false-right}
 use Rattle.theory.proofs.Lists.{chunks-at, row-end}
 use Rattle.theory.proofs.Members.{each-append, each-cons, each-nil}

@@ -24,6 +24,7 @@ use Rattle.theory.proofs.Completion.{Sound, begun-sound}
 use Rattle.theory.proofs.Rows.{rows-count}
 use Rattle.certified_theory.proofs.Weights.{Light, counted-light, looked-light, row-light, within-weight}
 use Rattle.certified_theory.proofs.Forgetting.{begun-empty}
+use Rattle.certified_theory.proofs.Stopping.{until-over}
 use Rattle.reduction.specs.Areas.{sequencesIn}
 use Rattle.completion.specs.declared.Sizes.{Sizes}
 use Rattle.completion.specs.declared.State.{State}
@@ -36,7 +37,7 @@ use Rattle.certified.specs.Noting.{notedIn, ranIn, standingIn, widthOf}
 use Rattle.coefficients.proofs.Nothing.{vectors-none}
 use Rattle.certified.proofs.Advancing.{certified-same, notable-fewer}
 use Rattle.certified.proofs.Made.{rows-made}
-use Rattle.certified.proofs.Turns.{allSums, stopped-over, turn, until-over}
+use Rattle.certified.proofs.Turns.{allSums, stopped-over, turn}
 
 -- a completion with these rows in which no sum was tried, unless it was turned down
 abbrev Untried : (rows : List Vector) → Defined.Completion → Type 0

@@ -1,9 +1,9 @@
 -- One turn of the run, and its end (Specification 3.2 to 3.4 and 3.7). Assumes nothing.
 use mathlib.Core.Path.{_≡_, refl, sym, _∙_, ap, ap₂, subst}
 use mathlib.Core.Logic.{inl, inr}
-use mathlib.Core.Bool.{Bool, true, false, cond}
+use mathlib.Core.Bool.{true}
 use mathlib.Core.List.{List}
-use Prim.Native.Nat.{ℕ, zero, suc, _+_, _-_, _≤_, _<_}
+use Prim.Native.Nat.{ℕ, suc, _+_, _-_, _≤_, _<_}
 use native.Mathlib.Omega.{arith}
 use borrow.Author.Tests.{le-leb}
 use lib.ListN.{length}
@@ -17,6 +17,7 @@ use Rattle.definitions.specs.Certified.{CertifiedCompletion, certifiedStep, isO
 use Rattle.definitions.specs.Lent.{vectorsOf}
 use Rattle.theory.proofs.Counting.{fewer}
 use Rattle.certified_theory.proofs.Forgetting.{Follows, step-follows}
+use Rattle.certified_theory.proofs.Stopping.{until-over, until-turn}
 use Rattle.reduction.specs.declared.Shape.{Shape}
 use Rattle.reduction.specs.Areas.{sequencesIn}
 use Rattle.completion.specs.declared.Sizes.{Sizes}
@@ -27,17 +28,6 @@ use Rattle.completion.specs.Machine.{After, Ready, stateIn, steppedIn}
 use Rattle.completion.proofs.Facts.{areas-again, left-rows, rows-are}
 use Rattle.certified.specs.Noting.{CertifiedTo, Limited, Notable, advancedIn, ranIn, standingIn}
 use Rattle.certified.proofs.Advancing.{certified-same, notable-again, sound-next, sums-next, unfinished}
-
-module _ {A : Type 0} (over : A → Bool) (onward : A → A) where
-  -- what is over stays as it is
-  pub until-over : (fuel : ℕ) (a : A) → over a ≡ true → until over onward fuel a ≡ a
-  unfolding until
-  until-over zero a e = refl
-  until-over (suc fuel) a e = ap (λ (b : Bool). cond b a (until over onward fuel (onward a))) e
-
-  until-turn : (fuel : ℕ) (a : A) → over a ≡ false → until over onward (suc fuel) a ≡ until over onward fuel (onward a)
-  unfolding until
-  until-turn fuel a e = ap (λ (b : Bool). cond b a (until over onward fuel (onward a))) e
 
 -- a completion that was turned down is over
 pub stopped-over : (x : CertifiedCompletion) {number place : ℕ} → stopped number place ≡ x .completion

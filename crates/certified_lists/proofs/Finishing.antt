@@ -2,7 +2,7 @@
 -- Assumes nothing.
 use mathlib.Core.Path.{_≡_, sym, _∙_, ap, ap₂, subst}
 use mathlib.Core.Bool.{true, not}
-use mathlib.Core.List.{List, [], _∷_, _++_, map, List·Memᴰ, append-nil}
+use mathlib.Core.List.{List, [], map, List·Memᴰ, append-nil}
 use Prim.Native.Nat.{ℕ, _*_, _/_, _≤_, _<_}
 use native.Mathlib.Nat.{le-div-iff-mul-le, mul-div-cancel, mul-le-mul, mul-le-mul-right}
 use native.Mathlib.Omega.{arith}
@@ -32,7 +32,7 @@ use Rattle.reduction.specs.Areas.{rowsAt, sequencesIn}
 use Rattle.reduction.specs.Marks.{rowsInUse}
 use Rattle.coefficients.specs.Carrying.{Arrangeable, arranged, widest}
 use Rattle.sorting.specs.Flags.{Finished}
-use Rattle.certified_lists.specs.Found.{Arranged, NotedRows}
+use Rattle.certified_lists.specs.Found.{Arranged, RowsAndCoefficients}
 
 -- a row that stays is a stored row
 pub final-among : (table : List Exchange) (rows : List Vector) (v : Vector) → List·Memᴰ v (finalRows table rows)
@@ -73,7 +73,7 @@ rows-narrow n k area fits room =
     subst (Narrow n) (sym (t .2)) (record { long = padded-length (t .0) (omega arith); short = short-rows n (t .0) long }))
 
 module _ (extent : Extent) (m : ℕ) {group : List ℕ} {list : List ℤ} {marks keys : List ℕ} {noted coefficients : List ℤ}
-    (N : NotedRows extent m group list marks keys noted coefficients) where
+    (N : RowsAndCoefficients extent m group list marks keys noted coefficients) where
   abbrev n : ℕ
   n = extent .shape .n
 

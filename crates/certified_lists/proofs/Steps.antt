@@ -30,7 +30,7 @@ use Rattle.completion.specs.Machine.{After, sizesOf, stateIn}
 use Rattle.completion.specs.Machine as Machine
 use Rattle.certified.specs.Noting.{CertifiedTo, Notable, completedIn, notedIn, widthOf}
 use Rattle.moves.proofs.Steps.{few, stored-few, stored-marked}
-use Rattle.certified_lists.specs.Found.{Arranged, CertifiedFinds, ClosedGroup, NotedRows, answerOf, certifiedWith}
+use Rattle.certified_lists.specs.Found.{Arranged, CertifiedFinds, ClosedGroup, RowsAndCoefficients, answerOf, certifiedWith}
 use Rattle.certified_lists.proofs.Ends.{finds-refused}
 
 -- an outcome of a completion and the coefficients of its rows
@@ -96,7 +96,7 @@ module _ {shape : Shape} {generators : List ℤ} {group : List ℕ} (C : ClosedG
       -- the rows are held with their marks and keys, and their coefficients
       pub stored-noted : {coefficients : List ℤ} → listLimit * groupLimit ≤ length marks
           → listLimit * generatorLimit ≤ length noted → length coefficients ≡ listSize / n * m
-          → NotedRows extent m group list marks keys noted coefficients
+          → RowsAndCoefficients extent m group list marks keys noted coefficients
       stored-noted {coefficients} wide deep room =
           let stays = stored-few (C .grouped) listSize limit rows s plain long in
           let l : s .stored ≤ listLimit = omega (arith, stays, few (C .grouped) listSize limit rows) in

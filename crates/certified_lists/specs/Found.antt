@@ -1,6 +1,6 @@
 -- What the parts of the List with coefficients find, by the definitions (Specification 3.7 and 7). Assumes nothing.
 use mathlib.Core.Path.{_≡_}
-use mathlib.Core.List.{List, []}
+use mathlib.Core.List.{List}
 use Prim.Native.Nat.{ℕ, _*_, _/_, _≤_}
 use lib.IntN.{ℤ, pos}
 use lib.ListN.{length}
@@ -74,7 +74,7 @@ CertifiedCompletes shape generators list group coefficients r =
     list group coefficients r
 
 -- k stored rows with their marks, and their coefficients, m to a row
-pub record NotedRows (extent : Extent) (m : ℕ) (group : List ℕ) (list : List ℤ) (marks keys : List ℕ)
+pub record RowsAndCoefficients (extent : Extent) (m : ℕ) (group : List ℕ) (list : List ℤ) (marks keys : List ℕ)
     (noted coefficients : List ℤ) : Type 0 where
   pub marked : RowsMarked (extent .shape) (extent .k) group list marks keys
   pub few : extent .k ≤ listLimit

@@ -6,7 +6,7 @@ ghost use Rattle.definitions.specs.Calls.{certifiedListing};
 ghost use Rattle.vectors.specs.Areas.{sentOrder};
 ghost use Rattle.certified_lists.specs.Promise.{KeepsCertified};
 ghost use Rattle.certified_lists.specs.Found.{Arranged, CertifiedCompletes, CertifiedFindsIn, ClosedGroup};
-ghost use Rattle.certified_lists.specs.Found.{NotedRows};
+ghost use Rattle.certified_lists.specs.Found.{RowsAndCoefficients};
 use admission::Admission;
 use admission::admit;
 use admission::rows_up_to;
@@ -55,7 +55,7 @@ fn finish_certified(
     coefficients: &mut [i64],
 ) -> usize
     requires noted { ⌜
-        NotedRows extent m (now group) (now list) (now marks) (now keys) (now noted) (now coefficients)
+        RowsAndCoefficients extent m (now group) (now list) (now marks) (now keys) (now noted) (now coefficients)
         ⌝ }
     ensures arranged { λ r. ⌜
         (let group = now (group .entry) in

@@ -1,6 +1,6 @@
 -- What a refusal of the List with coefficients may report (Specification 7.2): one of List's numbers, or 24, and a place
 -- that is one of theirs. Assumes nothing.
-use mathlib.Core.Path.{_≡_, refl, sym, subst, _∙_}
+use mathlib.Core.Path.{_≡_, refl, sym, subst}
 use mathlib.Core.Logic.{_⊎_, inl, inr}
 use mathlib.Core.List.{List}
 use Prim.Native.Nat.{ℕ, _≤_}
