@@ -73,7 +73,7 @@ pub fn sent_fault(
 }
 
 // Refusal 23 of a bare order, 11 of any other (Specification 7.2).
-fn lattice_fault(n: usize, generators: &[i32], exchanges: &[u8], images: &[i64]) -> Fault
+pub fn lattice_fault(n: usize, generators: &[i32], exchanges: &[u8], images: &[i64]) -> Fault
     requires numbered { ⌜ Numbered (orderOf n (now generators) (now exchanges) (now images)) ⌝ }
     ensures met { λ r. ⌜ r ≡ latticeFault (sentOrder n generators exchanges images) ⌝ }
 {

@@ -11,6 +11,8 @@ pub mod Split
 pub mod Lent
 pub mod Refusals
 pub mod Calls
+pub mod Session
 pub mod Demands
 pub mod Samples
 pub mod CertifiedSamples
+pub mod SessionSamples

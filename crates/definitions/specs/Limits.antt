@@ -17,6 +17,10 @@ groupLimit = 1_152
 abbrev pub listLimit : ℕ
 listLimit = 128
 
+-- 3.8: the list rows of each order of a session
+abbrev pub sessionRows : ℕ
+sessionRows = 64
+
 -- 6: the most generators
 abbrev pub generatorLimit : ℕ
 generatorLimit = 64

@@ -25,6 +25,29 @@ pub enum Answer {
     },
 }
 
+// How an order of a session ends (Specification 3.8): as a List does, or with sums left to try.
+pub enum Ending {
+    Moves {
+        rows: u64,
+        members: u64,
+        stored: u64,
+        sums: u64,
+    },
+    Unfinished {
+        sums: u64,
+    },
+    Refused {
+        number: u64,
+        place: u64,
+    },
+}
+
+// What a session answers: how order 0 and how order 1 ends.
+pub struct Session {
+    pub first: Ending,
+    pub second: Ending,
+}
+
 // What a test finds: nothing, or the number and the place of a refusal.
 pub enum Fault {
     None,

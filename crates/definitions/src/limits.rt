@@ -12,6 +12,9 @@ pub const GROUP_LIMIT: usize = 1_152;
 // 13: the most list rows in use; 6: the most rows that a Check takes.
 pub const LIST_LIMIT: usize = 128;
 
+// The list rows of each order of a session.
+pub const SESSION_ROWS: usize = 64;
+
 // 6: the most generators.
 pub const GENERATOR_LIMIT: usize = 64;
 

@@ -23,7 +23,7 @@ step-over table limit (stopped number place) e = refl
 step-over table limit (running s) e =
     ap (λ (b : Bool). cond b (running s) (settled table limit s (remainder table (s .rows) (sumAt table s)))) e
 
-steps-over : (table : List Exchange) (limit count : ℕ) (c : Completion) → isOver c ≡ true → steps table limit count c ≡ c
+pub steps-over : (table : List Exchange) (limit count : ℕ) (c : Completion) → isOver c ≡ true → steps table limit count c ≡ c
 steps-over table limit zero c e = refl
 steps-over table limit (suc count) c e = ap (steps table limit count) (step-over table limit c e) ∙ steps-over table limit count c e
 
@@ -36,7 +36,7 @@ run-steps table limit (suc fuel) c = go (isOver c) refl (run-steps table limit f
     go true e ih = sym (steps-over table limit (suc fuel) c e)
     go false e ih = ih
 
-steps-add : (table : List Exchange) (limit a b : ℕ) (c : Completion) → steps table limit (a + b) c ≡ steps table limit b (steps table limit a c)
+pub steps-add : (table : List Exchange) (limit a b : ℕ) (c : Completion) → steps table limit (a + b) c ≡ steps table limit b (steps table limit a c)
 steps-add table limit zero b c = ap (λ (k : ℕ). steps table limit k c) (first b)
   where
     first : (b : ℕ) → 0 + b ≡ b

@@ -1,0 +1,2 @@
+-- One order of a session on its half of a list area.
+pub mod Ends

@@ -1,0 +1,1 @@
+// Theorems over the definition of a session: lemma files in proofs/, no code.

@@ -1,0 +1,3 @@
+-- What a session promises, and what its parts find.
+pub mod Promise
+pub mod Found
