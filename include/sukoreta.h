@@ -142,7 +142,8 @@ size_t sukoreta_answer_limit(void);
  *             24    after 12 and 13: a row is to be stored and a coefficient of it is past +-1,000,000; the place is
  *                   the number of sums tried, this one counted
  *
- * Stack: a lent call takes about 252,000 bytes, List with coefficients 325,000, a call on an order file up to 365,000.
+ * Stack: a lent call takes about 252,000 bytes, a session 142,000, List with coefficients 325,000, a call on an order
+ * file up to 365,000.
  * No memory is allocated, and nothing is kept from one call to the next: calls in several threads need no lock.
  */
 int64_t sukoreta_lent_list(size_t n, const int32_t *generators, size_t generators_length, const uint8_t *exchanges,
@@ -168,6 +169,45 @@ int64_t sukoreta_lent_check(size_t n, const int32_t *generators, size_t generato
                             const int32_t *rows, size_t rows_length, const int64_t *coefficients,
                             size_t coefficients_length, uint8_t *group, size_t group_length, uint64_t *counts,
                             size_t counts_length);
+
+/* Session: List for two orders with equal n and equal exchanges, on one group table, a sum at a time. Slices are lent
+ * as above; other than there are
+ *
+ *   list          exactly 128 rows, of which order 0 has the first 64 and order 1 the rest
+ *   steps         any number of bytes: 0 or 1 names an order and tries one sum for it. For an order that is finished or
+ *                 refused a step changes nothing, and neither does any other byte
+ *   counts        written: 10 numbers or more
+ *
+ * An order is finished at once when its last sum is tried, and one without generators before the first step. Whichever
+ * way the steps are mixed, a finished or refused order has the list, the counts and the refusal that List gives it with
+ * 64 list rows, but for the refusals below, and the generators and images of the other order change none of them. One
+ * order may be bare and the other not.
+ *
+ * Returned is
+ *   r >= 0  the number of finished orders, 0, 1 or 2; refusals are in the counts area. It holds five numbers for order
+ *           0, then five for order 1, and zeros behind them:
+ *             0, rows, g, k, sums     finished: the order's 64 rows hold its list, and zeros behind it
+ *             1, sums, 0, 0, 0        unfinished: it had sums left when the steps ended; sums are those tried. The
+ *                                     order's 64 rows hold zeros
+ *             2, number, place, 0, 0  refused: the order's 64 rows hold zeros
+ *           The group area holds the sequences of the group, or, if both orders are refused, zeros alone.
+ *   r = -6  the counts area has fewer than 10 numbers, tested after everything else; every written area holds zeros.
+ *
+ * An order meets the refusals of List on its own, and with the other these:
+ *    5      before all others, of both orders: n is not the same                   0
+ *    6      then, of both orders: the list area does not have 128 * n numbers,     0
+ *           whether or not n is 1 to 16
+ *    9      after 9 of its own, and before 10: the exchanges are not those of      the first exchange that differs
+ *           the other order, in their sequence and number by number; where one
+ *           order has no more numbers, the first that it lacks differs
+ */
+int64_t sukoreta_lent_session(size_t n0, const int32_t *generators0, size_t generators0_length,
+                              const uint8_t *exchanges0, size_t exchanges0_length, const int64_t *images0,
+                              size_t images0_length, size_t n1, const int32_t *generators1,
+                              size_t generators1_length, const uint8_t *exchanges1, size_t exchanges1_length,
+                              const int64_t *images1, size_t images1_length, int32_t *list, size_t list_length,
+                              uint8_t *group, size_t group_length, const uint8_t *steps, size_t steps_length,
+                              uint64_t *counts, size_t counts_length);
 
 #ifdef __cplusplus
 }

@@ -1,6 +1,6 @@
 // Measures the stack that each call takes, on orders that go through every part of it, and holds it to a bound. Each
 // call is made with all moves of a table, and then bare, with a basis of them, which List with coefficients alone
-// refuses; what is printed is the most of both.
+// refuses; what is printed is the most of both. A session has the same order twice, and must finish both.
 //
 // A call is made in a thread whose stack was filled before: what is changed afterwards was taken. What the thread takes
 // itself, found by a call that does nothing, is not counted. The last line is 'N passed, M failed'.
@@ -12,12 +12,13 @@
 
 #include "sukoreta.h"
 
-enum { STACK = 1 << 20, BOUND = 400000, FILLED = 0xa5, N = 16, MOVES = 36, BASIS = 9, SENT = 7 };
+enum { STACK = 1 << 20, BOUND = 400000, FILLED = 0xa5, N = 16, MOVES = 36, BASIS = 9, SENT = 7, STEPS = 1 << 17 };
 
 static uint8_t stack[STACK] __attribute__((aligned(4096)));
 static int32_t generators[MOVES * N], list[128 * N], pieces[256], vector[N], rows[128 * N];
 static uint8_t exchanges[SENT * N], group[1152 * N], order[SUKORETA_ORDER_LIMIT], answer[SUKORETA_ANSWER_LIMIT];
-static uint64_t counts[5];
+static uint8_t steps[STEPS];
+static uint64_t counts[10];
 static int64_t images[SENT * BASIS * BASIS], coefficients[128 * MOVES], written[128 * MOVES], result;
 static size_t moves, image_count, order_length, row_count;
 
@@ -131,6 +132,14 @@ static void *lent_check(void *x) {
     return x;
 }
 
+static void *lent_session(void *x) {
+    result = sukoreta_lent_session(N, generators, moves * N, exchanges, SENT * N, images, image_count,
+                                   N, generators, moves * N, exchanges, SENT * N, images, image_count,
+                                   list, 128 * N, group, 1152 * N, steps, STEPS, counts, 10);
+    if (result != 2) result = -1;  // an order that is not finished counts as a refusal
+    return x;
+}
+
 static void *call_list(void *x) {
     result = sukoreta_list(order, order_length, answer, sizeof answer);
     return x;
@@ -170,7 +179,7 @@ static void make(bool bare) {
     make_coefficients(bare);
 }
 
-enum { CALLED = 7 };
+enum { CALLED = 8 };
 
 int main(void) {
     static const struct {
@@ -182,6 +191,7 @@ int main(void) {
                        {"sukoreta_lent_list_with_coefficients", lent_list_with_coefficients, 0, false},
                        {"sukoreta_lent_split", lent_split, 1, true},
                        {"sukoreta_lent_check", lent_check, 2, true},
+                       {"sukoreta_lent_session", lent_session, 0, true},
                        {"sukoreta_list", call_list, 0, true},
                        {"sukoreta_split", call_split, 1, true},
                        {"sukoreta_check", call_check, 2, true}};
@@ -189,6 +199,7 @@ int main(void) {
     int64_t results[CALLED][2];
     int failed = 0;
     make_exchanges();
+    for (int i = 0; i < STEPS; i++) steps[i] = i % 2;
     for (int bare = 0; bare < 2; bare++) {
         make(bare);
         for (int i = 0; i < CALLED; i++) {

@@ -3,3 +3,4 @@ pub mod Laying
 pub mod Reporting
 pub mod Ending
 pub mod Calls
+pub mod Sessions

@@ -1,13 +1,16 @@
 -- How a lent call for C ends (Specification 1.1 and 9.4): its result, and its counts in an area. Assumes nothing.
 use mathlib.Core.Path.{_≡_}
-use mathlib.Core.List.{List, [], _∷_}
-use Prim.Native.Nat.{ℕ, _<_, _^_}
+use mathlib.Core.List.{List, [], _∷_, _++_}
+use Prim.Native.Nat.{ℕ, _+_, _<_, _^_}
 use lib.Dec.{leb}
 use lib.IntN.{ℤ, pos}
 use lib.ListN.{length, getD}
 use Rattle.definitions.specs.declared.Answer.{Answer}
 use Rattle.definitions.specs.declared.Answer.the-variants.{Moves, Split, Passed, Refused}
+use Rattle.definitions.specs.declared.Ending.{Ending}
+use Rattle.definitions.specs.declared.Ending.the-variants as ending
 use Rattle.definitions.specs.declared.Fault.the-variants.{At}
+use Rattle.definitions.specs.declared.Session.{Session}
 use Rattle.definitions.specs.Lists.{if_then_else_}
 use Rattle.definitions.specs.Lent.{Order, filled}
 use Rattle.definitions.specs.Refusals.{refused}
@@ -75,3 +78,29 @@ unfoldable pub lentCheck : Order → (rows coefficients : List ℤ) (groupSize c
 lentCheck order rows coefficients groupSize countsSize =
     let end = checkCall order rows coefficients groupSize in
     ifRoomy (end .answer) countsSize end (checkEnd groupSize 0 [] (At 6 0))
+
+-- ---- Session
+
+-- 3.8: how an order of a session ended, 0 finished, 1 unfinished, 2 refused, and its values; five numbers
+abbrev pub endingCounts : Ending → List ℕ
+endingCounts (ending.Moves rows members stored sums) = 0 ∷ rows ∷ members ∷ stored ∷ sums ∷ []
+endingCounts (ending.Unfinished sums) = 1 ∷ sums ∷ 0 ∷ 0 ∷ 0 ∷ []
+endingCounts (ending.Refused number place) = 2 ∷ number ∷ place ∷ 0 ∷ 0 ∷ []
+
+-- the counts of a session: those of order 0, then those of order 1
+abbrev pub sessionCounts : Session → List ℕ
+sessionCounts answer = endingCounts (answer .first) ++ endingCounts (answer .second)
+
+-- so many they are
+abbrev pub sessionSize : ℕ
+sessionSize = 10
+
+-- 1 for a finished order, 0 for another
+abbrev pub finishedIn : Ending → ℕ
+finishedIn (ending.Moves rows members stored sums) = 1
+finishedIn (ending.Unfinished sums) = 0
+finishedIn (ending.Refused number place) = 0
+
+-- the number of finished orders
+abbrev pub finishedOf : Session → ℕ
+finishedOf answer = finishedIn (answer .first) + finishedIn (answer .second)

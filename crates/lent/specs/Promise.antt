@@ -3,12 +3,13 @@
 use mathlib.Core.Path.{_≡_}
 use mathlib.Core.Logic.{_↔_}
 use mathlib.Core.List.{List}
-use Prim.Native.Nat.{ℕ, _/_, _≤_}
+use Prim.Native.Nat.{ℕ, _/_, _≤_, _<_}
 use lib.IntN.{ℤ, pos, negsuc}
 use lib.ListN.{length, replicate}
 use denote.Ref.{now}
 use Rattle.definitions.specs.declared.Answer.{Answer}
 use Rattle.definitions.specs.declared.Answer.the-variants.{Passed}
+use Rattle.definitions.specs.declared.Session.{Session}
 use Rattle.definitions.specs.Vector.{padded}
 use Rattle.definitions.specs.Lattice.{InLattice}
 use Rattle.definitions.specs.Lent.{Order, exchangesOf, filled, generatorsOf, vectorsOf}
@@ -17,8 +18,10 @@ use Rattle.definitions.specs.Demands.{RulesKept, Whole}
 use Rattle.vectors.specs.Areas.{Lent, sentOrder}
 use Rattle.moves.specs.Promise.{CheckPassed, ListAccepted, ListZero, PastEntries, SplitAccepted, SplitZero}
 use Rattle.certified_lists.specs.Promise.{CertifiedAccepted, CertifiedZero}
+use Rattle.sessions.specs.Promise.{SessionPromise}
 use Rattle.answers.specs.Refusal.{refusalOf}
 use Rattle.lent.specs.Ends.{countsOf, lentCertified, lentCheck, lentList, lentSplit, resultOf}
+use Rattle.lent.specs.Ends.{finishedOf, sessionCounts, sessionSize}
 
 -- an answer was returned, and its counts stand in their area
 pub record Returned (answer : Answer) (result : ℤ) (counts : List ℕ) : Type 0 where
@@ -160,3 +163,30 @@ abbrev pub KeepsLentCheck : (n : ℕ) (generators : Lent ℤ) (exchanges : Lent 
 KeepsLentCheck n generators exchanges images rows coefficients group counts result =
     let order = sentOrder n generators exchanges images in
     CheckLent order (now (rows .entry)) (now (coefficients .entry)) result (now (group .exit)) (now (counts .exit))
+
+-- ---- Session
+
+-- with room for the counts: what `SessionPromise` says, the number of finished orders, and the counts in their area
+pub record SessionGiven (first second : Order) (steps : List ℕ) (result : ℤ) (list : List ℤ) (group counts : List ℕ)
+    : Type 0 where
+  pub answer : Session
+  pub kept : SessionPromise first second (length list) (length group) steps answer list group
+  pub results : result ≡ pos (finishedOf answer)
+  pub countsHold : counts ≡ filled 0 (length counts) (sessionCounts answer)
+
+-- without: 6 at 0, and zeros in every area
+pub record SessionShort (result : ℤ) (list : List ℤ) (group counts : List ℕ) : Type 0 where
+  pub results : result ≡ refusalOf 6 0
+  pub zeros : ListZero list group × CountsZero counts
+
+-- sukoreta_lent_session: a refusal of an order is among the counts, and the result is one only without room for them
+pub record SessionLent (first second : Order) (steps : List ℕ) (result : ℤ) (list : List ℤ) (group counts : List ℕ)
+    : Type 0 where
+  pub roomy : sessionSize ≤ length counts → SessionGiven first second steps result list group counts
+  pub short : length counts < sessionSize → SessionShort result list group counts
+
+-- .. of the orders and the steps that are sent, in the areas that are lent
+abbrev pub KeepsLentSession : (first second : Order) (list : Lent ℤ) (group steps counts : Lent ℕ) (result : ℤ) → Type 0
+KeepsLentSession first second list group steps counts result =
+    SessionLent first second (now (steps .entry)) result
+    (now (list .exit)) (now (group .exit)) (now (counts .exit))

@@ -1,16 +1,26 @@
 // The lent calls for C (Specification 1.1): numbers and slices, and an area for the counts of the answer.
 ghost use mathlib.Core.Path.{_≡_};
 ghost use Prim.Native.Nat.{_≤_, _<_, _^_};
+ghost use lib.IntN.{pos};
 ghost use lib.ListN.{length, getD, take};
 ghost use Rattle.definitions.specs.Lent.{filled};
+ghost use Rattle.vectors.specs.Areas.{sentOrder};
 ghost use Rattle.lent.specs.Ends.{Gives, Reports, Small};
+ghost use Rattle.lent.specs.Ends.{endingCounts, finishedIn, finishedOf, sessionCounts, sessionSize};
 ghost use Rattle.lent.specs.Promise.{KeepsLentCertified, KeepsLentCheck, KeepsLentList, KeepsLentSplit};
+ghost use Rattle.lent.specs.Promise.{KeepsLentSession};
 use answers::refusal;
 use certified_lists::list_with_coefficients;
 use coefficients::clear_coefficients;
 use definitions::Answer;
+use definitions::Ending;
+use definitions::Session;
+use sessions::session;
 use vectors::clear;
 use vectors::clear_bytes;
+
+// The counts of a session.
+const SESSION_COUNTS: usize = 10;
 
 // Number i of the first k; 0 behind them.
 fn count_at(numbers: &[u64], k: usize, i: usize) -> u64
@@ -212,4 +222,109 @@ pub extern "C" fn sukoreta_lent_check(
         return result;
     }
     result
+}
+
+// How an order of a session ended, and its values (Specification 3.8).
+fn ending_counts(ending: Ending) -> [u64; 5]
+    ensures counted { λ r. ⌜ r ≡ endingCounts ending ⌝ }
+{
+    match ending {
+        Ending::Moves {
+            rows,
+            members,
+            stored,
+            sums,
+        } => [0, rows, members, stored, sums],
+        Ending::Unfinished { sums } => [1, sums, 0, 0, 0],
+        Ending::Refused { number, place } => [2, number, place, 0, 0],
+    }
+}
+
+// 1 for a finished order, 0 for another.
+fn finished_one(ending: Ending) -> u64
+    ensures told { λ r. ⌜ r ≡ finishedIn ending ⌝ }
+{
+    match ending {
+        Ending::Moves {
+            rows,
+            members,
+            stored,
+            sums,
+        } => 1,
+        Ending::Unfinished { sums } => 0,
+        Ending::Refused { number, place } => 0,
+    }
+}
+
+// The number of finished orders.
+fn finished(answer: Session) -> i64
+    ensures counted { λ r. ⌜ r ≡ pos (finishedOf answer) ⌝ }
+{
+    let first = answer.first;
+    let second = answer.second;
+    (finished_one(first) + finished_one(second)) as i64
+}
+
+// The counts of a session, order by order, into an area that has room for them, and zeros behind.
+fn lay_session(area: &mut [u64], answer: Session)
+    requires room { ⌜ sessionSize ≤ length (now area) ⌝ }
+    ensures laid { λ _. ⌜ now (area .exit) ≡ filled 0 (length (now (area .entry))) (sessionCounts answer) ⌝ }
+{
+    let first = answer.first;
+    let second = answer.second;
+    let a = ending_counts(first);
+    let b = ending_counts(second);
+    let numbers = [a[0], a[1], a[2], a[3], a[4], b[0], b[1], b[2], b[3], b[4]];
+    lay_counts(area, &numbers, SESSION_COUNTS);
+}
+
+// Session on lent areas, for C (Specification 1.1 and 3.8): the number of finished orders; how each order ended, and
+// its values, in the counts area.
+#[no_mangle]
+pub extern "C" fn sukoreta_lent_session(
+    n0: usize,
+    generators0: &[i32],
+    exchanges0: &[u8],
+    images0: &[i64],
+    n1: usize,
+    generators1: &[i32],
+    exchanges1: &[u8],
+    images1: &[i64],
+    list: &mut [i32],
+    group: &mut [u8],
+    steps: &[u8],
+    counts: &mut [u64],
+) -> i64
+    ensures kept { λ r. ⌜
+        (let first = sentOrder n0 generators0 exchanges0 images0 in
+        let second = sentOrder n1 generators1 exchanges1 images1 in
+        KeepsLentSession first second list group steps counts r)
+        ⌝ }
+{
+    let answer = session(
+        n0,
+        generators0,
+        exchanges0,
+        images0,
+        n1,
+        generators1,
+        exchanges1,
+        images1,
+        &mut *list,
+        &mut *group,
+        steps,
+    );
+    if counts.len() < SESSION_COUNTS {
+        clear(list, 0);
+        clear_bytes(group, 0);
+        return report(
+            counts,
+            Answer::Refused {
+                number: 6,
+                place: 0,
+            },
+        );
+    }
+    lay_session(counts, answer);
+    finished(answer)
 }

@@ -3,15 +3,17 @@
 // table, laid out by its section 9. The 15 rows of 14, which the table only counts, come from a search through all 3 by
 // 3 tables with zero sums and no entry past 3 (`minimal_tables` in tests/tables.py): the minimal ones, each with the
 // sign that makes it the greater of the two (2.6), sorted (2.7). 4ti2's `graver` gives the same. 24 to 35 are Lists
-// with coefficients: behind the text of an accepted one come COEFFICIENTS, a line for each row, and END. Their lines in
-// `stdout` were made by tests/outside.py.
+// with coefficients: behind the text of an accepted one come COEFFICIENTS, a line for each row, and END. 36 to 45 are
+// sessions: the text of order 0, that of order 1, for one with sums left UNFINISHED and the sums tried, and the numbers
+// of the group area. The lines of both in `stdout` were made by tests/outside.py.
 ghost use mathlib.Core.Path.{_≡_};
-ghost use Prim.Native.Nat.{_≤_, _<_};
+ghost use Prim.Native.Nat.{_*_, _≤_, _<_};
 ghost use lib.ListN.{length};
 ghost use Rattle.definitions.specs.Limits.{cells, generatorLimit};
 ghost use Rattle.answers.specs.Answers.{lineCount};
 use answers::lengths::TEXT_LIMIT;
 use definitions::Answer;
+use definitions::Ending;
 use definitions::limits::CELLS;
 use definitions::limits::ENTRY_LIMIT;
 use definitions::limits::GENERATOR_LIMIT;
@@ -19,6 +21,7 @@ use definitions::limits::GROUP_LIMIT;
 use definitions::limits::LENT_PIECES;
 use definitions::limits::LIST_LIMIT;
 use definitions::limits::PIECE_WIDTH;
+use definitions::limits::SESSION_ROWS;
 
 // The list rows that programs lend (Specification 1.2), for the most cells.
 const LIST_AREA: usize = LIST_LIMIT * CELLS;
@@ -35,10 +38,13 @@ const COEFFICIENTS_AREA: usize = LIST_LIMIT * GENERATOR_LIMIT;
 // Room for a number of 64 bits and its sign.
 const NUMBER: usize = 20;
 
-// The generators of P2, P7 and 24.
+// Room for a word and a number of 64 bits.
+const WORD: usize = 40;
+
+// The generators of P2, P7, 24 and 36.
 const GENERATORS_2: [i32; 2] = [2, 3];
 
-// The generators of P3, P12, P17 to P22 and 25.
+// The generators of P3, P12, P17 to P22, 25 and 43.
 const GENERATORS_3: [i32; 6] = [1, -1, 0, 0, 1, -1];
 
 // The generators of P4, P5 and 26.
@@ -60,13 +66,16 @@ const EXCHANGE_4: [u8; 3] = [3, 2, 1];
 const EXCHANGES_13: [u8; 27] =
     *b"\x04\x05\x06\x01\x02\x03\x07\x08\x09\x01\x02\x03\x07\x08\x09\x04\x05\x06\x01\x04\x07\x02\x05\x08\x03\x06\x09";
 
-// The exchange of P17 to P20 and P22.
+// The exchange of P17 to P20, P22 and 43.
 const EXCHANGE_17: [u8; 3] = [2, 3, 1];
+
+// The exchange of 37 to 39 and 42.
+const SWAP: [u8; 2] = [2, 1];
 
 // An order with no images is not bare.
 const NO_IMAGES: [i64; 0] = [];
 
-// The images of P17, P18 and P19.
+// The images of P17, P18, P19 and 43.
 const IMAGES_17: [i64; 4] = [-1, -1, 1, 0];
 
 // ---- calls
@@ -295,6 +304,103 @@ fn with_coefficients(name: &[u8], n: usize, m: usize, generators: &[i32], exchan
         &mut group[..table],
         &mut coefficients[..numbers],
     );
+}
+
+// Prints the name of a sample and how an order of a session ends; its rows are numbers of `width` each.
+fn show_ending(name: &[u8], ending: Ending, numbers: &[i32], width: usize)
+    requires some { ⌜ 1 ≤ width ⌝ }
+{
+    match ending {
+        Ending::Moves {
+            rows,
+            members,
+            stored,
+            sums,
+        } => {
+            let answer = Answer::Moves {
+                rows,
+                members,
+                stored,
+                sums,
+            };
+            show(name, answer, numbers, width);
+        }
+        Ending::Unfinished { sums } => {
+            io::write_all(1, name);
+            show_unfinished(sums);
+        }
+        Ending::Refused { number, place } => {
+            show(name, Answer::Refused { number, place }, numbers, width);
+        }
+    }
+}
+
+// Prints that an order has sums left, and how many it has tried. The test is always met.
+fn show_unfinished(sums: u64) {
+    let mut text = [0u8; WORD];
+    let counts = [sums];
+    let end = answers::put_head(&mut text, 0, b"UNFINISHED", &counts);
+    if end <= WORD {
+        io::write_all(1, &text[..end]);
+    }
+}
+
+// Prints a number without a sign. The test is always met.
+fn show_natural(x: u64) {
+    let mut text = [0u8; NUMBER];
+    let end = answers::put_natural(&mut text, 0, x);
+    if end <= NUMBER {
+        io::write_all(1, &text[..end]);
+    }
+}
+
+// Prints the numbers of a group area.
+fn show_group(group: &[u8]) {
+    io::write_all(1, b"GROUP");
+    let mut i = 0;
+    while i < group.len() {
+        io::write_all(1, b" ");
+        show_natural(group[i] as u64);
+        i += 1;
+    }
+    io::write_all(1, b"\n");
+}
+
+// A session of two orders of n cells: how each ends, and the group area.
+fn session_in(
+    name: &[u8],
+    n: usize,
+    generators0: &[i32],
+    exchanges0: &[u8],
+    images0: &[i64],
+    generators1: &[i32],
+    exchanges1: &[u8],
+    list: &mut [i32],
+    group: &mut [u8],
+    steps: &[u8],
+)
+    requires sized { ⌜ (1 ≤ n) × (n ≤ cells) ⌝ }
+    requires halves { ⌜ n * 64 ≤ length (now list) ⌝ }
+{
+    let answer = sessions::session(
+        n,
+        generators0,
+        exchanges0,
+        images0,
+        n,
+        generators1,
+        exchanges1,
+        &NO_IMAGES,
+        &mut *list,
+        &mut *group,
+        steps,
+    );
+    let half = n * SESSION_ROWS;
+    let first = answer.first;
+    let second = answer.second;
+    show_ending(name, first, &list[..half], n);
+    show_ending(b"", second, &list[half..], n);
+    show_group(&*group);
 }
 
 // ---- samples
@@ -691,6 +797,184 @@ fn s35() {
     with_coefficients(b"35\n", 9, 9, &generators, &EXCHANGES_13);
 }
 
+// 36: steps that are mixed, and one order with sums left.
+fn s36() {
+    let others = [4i32, 6];
+    let steps =
+        *b"\x00\x01\x00\x00\x30\x01\x00\x00\x00\x01\x02\x00\x01\x00\x00\x00\x00\x01\x00\x00\x00";
+    let mut list = [0i32; 128];
+    let mut group = [0u8; 2];
+    session_in(
+        b"36\n",
+        1,
+        &GENERATORS_2,
+        b"",
+        &NO_IMAGES,
+        &others,
+        b"",
+        &mut list,
+        &mut group,
+        &steps,
+    );
+}
+
+// A session of orders of two cells, with these steps.
+fn in_two_cells(
+    name: &[u8],
+    generators0: &[i32],
+    exchanges0: &[u8],
+    generators1: &[i32],
+    exchanges1: &[u8],
+    group: &mut [u8],
+    steps: &[u8],
+) {
+    let mut list = [0i32; 256];
+    session_in(
+        name,
+        2,
+        generators0,
+        exchanges0,
+        &NO_IMAGES,
+        generators1,
+        exchanges1,
+        &mut list,
+        group,
+        steps,
+    );
+}
+
+// 37: one order refused, and the other's rows and the table kept.
+fn s37() {
+    let generators = [1i32, 0, 0, 0];
+    let others = [1i32, -1];
+    let steps = [1u8, 0, 1, 1, 1, 1];
+    let mut group = [0u8; 6];
+    in_two_cells(
+        b"37\n",
+        &generators,
+        &SWAP,
+        &others,
+        &SWAP,
+        &mut group,
+        &steps,
+    );
+}
+
+// 38: an exchange that the other order lacks.
+fn s38() {
+    let generators = [1i32, -1];
+    let exchanges = [2u8, 1, 1, 2];
+    let steps = [0u8, 1];
+    let mut group = [0u8; 4];
+    in_two_cells(
+        b"38\n",
+        &generators,
+        &exchanges,
+        &generators,
+        &SWAP,
+        &mut group,
+        &steps,
+    );
+}
+
+// 39: exchanges that are no whole rows, beside sound ones.
+fn s39() {
+    let none = [0i32; 0];
+    let exchanges = [2u8, 1, 1];
+    let mut group = [0u8; 4];
+    in_two_cells(b"39\n", &none, &SWAP, &none, &exchanges, &mut group, b"");
+}
+
+// 40 and 41: no cells, with a list area of another size and with none.
+fn without_cells(name: &[u8], list: &mut [i32]) {
+    let none = [0i32; 0];
+    let mut group = [0u8; 1];
+    let answer = sessions::session(
+        0,
+        &none,
+        b"",
+        &NO_IMAGES,
+        0,
+        &none,
+        b"",
+        &NO_IMAGES,
+        &mut *list,
+        &mut group,
+        b"",
+    );
+    let first = answer.first;
+    let second = answer.second;
+    show_ending(name, first, &*list, 1);
+    show_ending(b"", second, &*list, 1);
+    show_group(&group);
+}
+
+fn s40() {
+    let mut list = [0i32; 5];
+    without_cells(b"40\n", &mut list);
+}
+
+fn s41() {
+    let mut list = [0i32; 0];
+    without_cells(b"41\n", &mut list);
+}
+
+// 42: an order without generators, and one that no step names.
+fn s42() {
+    let none = [0i32; 0];
+    let others = [1i32, 1];
+    let steps = [0u8];
+    let mut group = [0u8; 4];
+    in_two_cells(b"42\n", &none, &SWAP, &others, &SWAP, &mut group, &steps);
+}
+
+// 43: a bare order beside one that is not.
+fn s43() {
+    let others = [1i32, -1, 0, 0, 1, -1, 1, 0, -1];
+    let steps = [0u8, 1, 1, 0, 0, 0, 1, 1, 0, 1, 0, 1];
+    let mut list = [0i32; 384];
+    let mut group = [0u8; 9];
+    session_in(
+        b"43\n",
+        3,
+        &GENERATORS_3,
+        &EXCHANGE_17,
+        &IMAGES_17,
+        &others,
+        &EXCHANGE_17,
+        &mut list,
+        &mut group,
+        &steps,
+    );
+}
+
+// 44: one order refused at a step, the other with a sum left: the table is kept.
+fn s44() {
+    let most = ENTRY_LIMIT as i32;
+    let generators = [most, 1, 1, most];
+    let others = [1i32, 0];
+    let steps = [0u8, 0, 0, 0, 1, 0, 0, 0, 0];
+    let mut group = [0u8; 2];
+    in_two_cells(b"44\n", &generators, b"", &others, b"", &mut group, &steps);
+}
+
+// 45: both refused at a step.
+fn s45() {
+    let most = ENTRY_LIMIT as i32;
+    let generators = [most, 1, 1, most];
+    let steps = [0u8, 1, 0, 1, 0, 1, 0, 1, 0, 1, 0, 1, 0, 1];
+    let mut group = [0u8; 2];
+    in_two_cells(
+        b"45\n",
+        &generators,
+        b"",
+        &generators,
+        b"",
+        &mut group,
+        &steps,
+    );
+}
+
 // Every sample, line by line of the table.
 fn main() {
     p1();
@@ -728,4 +1012,14 @@ fn main() {
     s33();
     s34();
     s35();
+    s36();
+    s37();
+    s38();
+    s39();
+    s40();
+    s41();
+    s42();
+    s43();
+    s44();
+    s45();
 }

@@ -14,10 +14,9 @@ use Rattle.definitions.specs.Lent.{Order, exchangesOf, filled, rowsOf, tableOf}
 use Rattle.definitions.specs.Refusals.{accepted, refused}
 use Rattle.definitions.specs.Session.{Result, SessionEnd, differenceFault, ended, endingOf, isRefused, sessionCall, sessionEnd}
 use Rattle.definitions.specs.Session.{sessionFault, sharedFault, stepsOf, unfinished}
-use Rattle.definitions.specs.Demands.{IsTable}
 use Rattle.theory.proofs.Accepted.{admission-none, order-symmetric}
 use Rattle.theory.proofs.Areas.{filled-nothing}
-use Rattle.session_theory.specs.Kept.{AreasKept, Left, TableKept}
+use Rattle.definitions.specs.Demands.{AreasKept, IsTable, Left, TableKept}
 use Rattle.session_theory.proofs.Tests.{difference-none, difference-same, fault-none, own-tests, shared-none, shared-same}
 use Rattle.session_theory.proofs.Tests.{tables-agree}
 use Rattle.session_theory.proofs.Own.{met-refused, resultAfter}

@@ -21,7 +21,7 @@ use Rattle.definitions.specs.Session.{sessionFault, sharedFault, started, unfin
 use Rattle.theory.proofs.Areas.{filled-nothing}
 use Rattle.theory.proofs.ListCall.{list-kept}
 use Rattle.theory.proofs.Steps.{steps}
-use Rattle.session_theory.specs.Kept.{Blank, Over, OwnEnd, PartAccepted, PartKept, SameShape}
+use Rattle.definitions.specs.Demands.{Blank, Over, OwnEnd, PartAccepted, PartKept, SameShape}
 use Rattle.session_theory.proofs.Tests.{fault-none}
 use Rattle.session_theory.proofs.Own.{after, early-end, enough-steps, met-refused, own-end, result-over, resultAfter}
 use Rattle.session_theory.proofs.Own.{unfinished-sums}

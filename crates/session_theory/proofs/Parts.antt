@@ -24,7 +24,7 @@ use Rattle.definitions.specs.Session.{halfOf, isRefused, resultOf, secondPart, 
 use Rattle.definitions.specs.Session.{sharedFault, started, stepsOf, unfinished}
 use Rattle.theory.proofs.Areas.{filled-nothing, length-filled}
 use Rattle.theory.proofs.Listing.{final-few}
-use Rattle.session_theory.specs.Kept.{Blank, PartKept}
+use Rattle.definitions.specs.Demands.{Blank, PartKept}
 use Rattle.session_theory.proofs.Tests.{fault-none, fault-shared, shared-none, shared-same, tables-agree}
 use Rattle.session_theory.proofs.Turns.{Fits, turns-first, turns-second}
 use Rattle.session_theory.proofs.Own.{after-fits, met-refused, resultAfter}

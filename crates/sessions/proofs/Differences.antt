@@ -13,7 +13,8 @@ use lib.Seq.{drop-cons}
 use Rattle.definitions.specs.declared.Fault.the-variants.{None, At}
 use Rattle.definitions.specs.Session.{differenceFrom, half}
 
-nothing : {A : Type 0} (list : List A) → length list ≡ 0 → list ≡ []
+-- a list of no elements
+pub nothing : {A : Type 0} (list : List A) → length list ≡ 0 → list ≡ []
 nothing [] e = refl
 nothing (x ∷ list) e = absurd (omega arith)
 

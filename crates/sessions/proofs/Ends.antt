@@ -6,7 +6,6 @@ use mathlib.Core.List.{List, [], _++_}
 use Prim.Native.Nat.{ℕ, _+_, _≤_}
 use lib.IntN.{ℤ, pos}
 use lib.ListN.{length, take, drop}
-use Rattle.definitions.specs.declared.Ending.{Ending}
 use Rattle.definitions.specs.declared.Ending.the-variants.{Refused}
 use Rattle.definitions.specs.declared.Fault.{Fault}
 use Rattle.definitions.specs.declared.Fault.the-variants.{None, At}
@@ -17,7 +16,7 @@ use Rattle.definitions.specs.Group.{Exchange}
 use Rattle.definitions.specs.Completion.{begun}
 use Rattle.definitions.specs.Lent.{Order, filled, generatorsOf, tableOf, vectorsOf}
 use Rattle.definitions.specs.Refusals.{accepted, refused}
-use Rattle.definitions.specs.Session.{Part, Result, SessionEnd, differenceFault, ended, endingOf, firstPart, half, halfOf}
+use Rattle.definitions.specs.Session.{Result, SessionEnd, differenceFault, ended, endingOf, firstPart, half, halfOf}
 use Rattle.definitions.specs.Session.{isRefused, resultOf, secondPart, sessionCall, sessionEnd, sessionFault, sharedFault}
 use Rattle.definitions.specs.Session.{started, stepsOf, unfinished, unlessMet}
 use Rattle.theory.proofs.Accepted.{Admitted, admission-none}

@@ -1,11 +1,12 @@
 -- The two halves of a list area, written one after the other. Assumes nothing.
-use mathlib.Core.Path.{_≡_, refl, _∙_, ap, ap₂}
-use mathlib.Core.List.{List, [], _∷_, _++_, append-nil}
+use mathlib.Core.Path.{_≡_, _∙_, ap, ap₂}
+use mathlib.Core.List.{List, [], _++_, append-nil}
 use Prim.Native.Nat.{ℕ, _+_, _-_}
 use native.Mathlib.Omega.{arith}
 use borrow.Rule.Slice.PartMut.{putMid, postOf}
 use lib.ListN.{length, take, drop, length-append, length-drop}
 use lib.Seq.{take-all, take-at, length-take-le}
+use Rattle.sessions.proofs.Differences.{nothing}
 
 module _ {A : Type 0} (half : ℕ) (list : List A) (long : length list ≡ half + half) where
   -- the first half, as it is lent
@@ -26,11 +27,9 @@ module _ {A : Type 0} (half : ℕ) (list : List A) (long : length list ≡ half 
         ∙ (let e : length (drop half once) ≡ half = omega (arith, length-drop half once, once-long) in e)
 
     none-behind : postOf half (length once - half) once ≡ []
-    none-behind = nothing (postOf half (length once - half) once) (omega (arith, length-drop (length once - half) (drop half once), length-drop half once))
-      where
-        nothing : (rest : List A) → length rest ≡ 0 → rest ≡ []
-        nothing [] e = refl
-        nothing (x ∷ rest) e = absurd (omega arith)
+    none-behind =
+        nothing (postOf half (length once - half) once)
+        (omega (arith, length-drop (length once - half) (drop half once), length-drop half once))
 
     -- both are there in the end
     pub both-halves : (back : List A) → putMid half (length once - half) once back ≡ front ++ back

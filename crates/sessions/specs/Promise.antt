@@ -8,7 +8,7 @@ use denote.Ref.{now}
 use Rattle.definitions.specs.declared.Session.{Session}
 use Rattle.definitions.specs.Lent.{Order}
 use Rattle.definitions.specs.Session.{firstPart, half, secondPart, sessionCall, stepsOf}
-use Rattle.session_theory.specs.Kept.{AreasKept, PartKept}
+use Rattle.definitions.specs.Demands.{AreasKept, PartKept}
 use Rattle.vectors.specs.Areas.{Lent}
 
 -- both answers and both areas by the definition; what each order may conclude from its part, its answer and its half of

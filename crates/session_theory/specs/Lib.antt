@@ -1,2 +1,0 @@
--- What each order of a session may conclude, and what the areas hold.
-pub mod Kept
