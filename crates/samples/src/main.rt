@@ -9,7 +9,7 @@
 ghost use mathlib.Core.Path.{_≡_};
 ghost use Prim.Native.Nat.{_*_, _≤_, _<_};
 ghost use lib.ListN.{length};
-ghost use Rattle.definitions.specs.Limits.{cells, generatorLimit};
+ghost use Rattle.definitions.specs.Limits.{cells, generatorLimit, sessionRows};
 ghost use Rattle.answers.specs.Answers.{lineCount};
 use answers::lengths::TEXT_LIMIT;
 use definitions::Answer;
@@ -380,7 +380,7 @@ fn session_in(
     steps: &[u8],
 )
     requires sized { ⌜ (1 ≤ n) × (n ≤ cells) ⌝ }
-    requires halves { ⌜ n * 64 ≤ length (now list) ⌝ }
+    requires halves { ⌜ n * sessionRows ≤ length (now list) ⌝ }
 {
     let answer = sessions::session(
         n,

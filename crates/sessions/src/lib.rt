@@ -127,7 +127,7 @@ fn is_left(first: Fault, second: Fault) -> bool
 
 // Where an order is left: the number of members of the group, and its table in its area; 0 where it has more than the
 // area has rows for.
-fn build(left: bool, n: usize, exchanges: &[u8], group: &mut [u8]) -> usize
+fn build_table(left: bool, n: usize, exchanges: &[u8], group: &mut [u8]) -> usize
     requires valid { ⌜ (left ≡ true → Exchangeable n (now exchanges)) ⌝ }
     ensures built { λ r. ⌜
         (let size = length (now (group .entry)) in
@@ -210,7 +210,7 @@ fn test_both(
         exchanges0,
         size,
     );
-    let members = build(is_left(first, second), n0, exchanges0, group);
+    let members = build_table(is_left(first, second), n0, exchanges0, group);
     Tests {
         first: late_fault(first, members, n0, generators0, exchanges0, images0),
         second: late_fault(second, members, n1, generators1, exchanges1, images1),

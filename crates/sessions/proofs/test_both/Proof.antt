@@ -63,8 +63,8 @@ early-fault-requires-2 c κs = search needs
 is-left-requires : tie.Need-is-left-requires
 is-left-requires c κs = search needs
 
-build-requires : tie.Need-build-requires
-build-requires c κs e =
+build-table-requires : tie.Need-build-table-requires
+build-table-requires c κs e =
     let l = c .before in
     let t = l .before in
     let s = start t in
@@ -94,10 +94,10 @@ returns c =
     let t = l .before in
     let s = start t in
     found-both (sent₀ s) (sent₁ s) (s .args .list) (size s) _ _
-    (f .late-fault .ensures ∙ ap (λ (x : Fault). lateFault x (b .build .result) (latticeFault (sent₀ s))) (early-first t))
-    (c .late-fault2 .ensures ∙ ap (λ (x : Fault). lateFault x (b .build .result) (latticeFault (sent₁ s))) (early-second t))
+    (f .late-fault .ensures ∙ ap (λ (x : Fault). lateFault x (b .build-table .result) (latticeFault (sent₀ s))) (early-first t))
+    (c .late-fault2 .ensures ∙ ap (λ (x : Fault). lateFault x (b .build-table .result) (latticeFault (sent₁ s))) (early-second t))
     (λ h. tabled-order (s .args .n0) (s .args .generators0 .now) (s .args .exchanges0 .now) (s .args .images0 .now)
-    (b .build .ensures (l .is-left .ensures ∙ ap₂ anyLeft (early-first t) (early-second t) ∙ h)))
+    (b .build-table .ensures (l .is-left .ensures ∙ ap₂ anyLeft (early-first t) (early-second t) ∙ h)))
 
 pub test-both-spec : {M : Type 1} → statement M
 test-both-spec =
@@ -107,7 +107,7 @@ test-both-spec =
     early-fault-requires
     early-fault-requires-2
     is-left-requires
-    build-requires
+    build-table-requires
     late-fault-requires
     late-fault-requires-2
     same-length
