@@ -6,6 +6,7 @@ use lib.IntN.{ℤ, pos, negℤ}
 use lib.ListN.{length, replicate}
 use Rattle.definitions.specs.declared.Ending.{Ending}
 use Rattle.definitions.specs.declared.Ending.the-variants.{Moves, Unfinished, Refused}
+use Rattle.definitions.specs.Limits.{sessionRows}
 use Rattle.definitions.specs.Lent.{Order, orderOf}
 use Rattle.definitions.specs.Session.{SessionEnd, sessionCall}
 
@@ -49,9 +50,9 @@ line first second listSize groupSize steps ending other list table =
       };
     }
 
--- order 1's rows, behind the 64 rows of order 0
+-- order 1's rows, behind those of order 0
 behind : (n : ℕ) (rows numbers : List ℤ) → List ℤ
-behind n rows numbers = rows ++ replicate (n * 64 - length rows) (pos 0) ++ numbers
+behind n rows numbers = rows ++ replicate (n * sessionRows - length rows) (pos 0) ++ numbers
 
 -- orders of one cell, and of two
 abbrev one : (generators : List ℤ) → Order
