@@ -64,6 +64,14 @@ def growth(results):
          ratio(r.times["list"], r.times["graver"])] for r in results])
 
 
+def windows(runs):
+    head = ["run", "W", "C call", "plain C", "C call / plain C"]
+    return rows_of(head, [
+        [name, width, f"{millions(call)} ({millions(call_best)})", f"{millions(plain)} ({millions(plain_best)})",
+         f"{short(call / plain)} ({short(call_best / plain_best)})"]
+        for name, width, call, call_best, plain, plain_best in runs])
+
+
 # ---- the plot
 
 WIDTH, HEIGHT, LEFT, TOP = 330, 260, 60, 50  # of a panel's field, and of what stands around it
@@ -132,7 +140,7 @@ def plot(groups, stored):
 
 # ---- the page
 
-def page(about, smallest, results, groups, stored, stack, kept):
+def page(about, smallest, results, groups, stored, windowed, stack, kept):
     """The text of docs/TIMES.md; what was kept stands at its end."""
     start = [in_ms(smallest.times[name]) for name in ("program", "list", "graver")]
     return f"""\
@@ -187,6 +195,16 @@ Random lattices of one kind, without exchanges.
 The plot has the least times of one List call and of 4ti2 in these two tables.
 
 ![Times over the members of the group and over the rows stored](times.svg)
+
+## The window over a run of draws
+
+{windows(windowed)}
+
+Million records a second, the median and, in brackets, the best of {about["rounds"]} rounds, on 1,000,000 records on the
+3 by 3 table with its group of 72. The C call is `sukoreta_lent_window`, its List included; plain C is a function in
+`bench/window.c` that has the list and the group's table and reads the window afresh for each record. Both wrote the
+same answers. Images are random; in "slow" none takes the chosen cell down for 2,000 records, and none up for the next
+2,000; in "straight" one image takes it up 2,000 times, and its negative down as often.
 
 ## Stack
 

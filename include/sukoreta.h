@@ -209,6 +209,41 @@ int64_t sukoreta_lent_session(size_t n0, const int32_t *generators0, size_t gene
                               uint8_t *group, size_t group_length, const uint8_t *steps, size_t steps_length,
                               uint64_t *counts, size_t counts_length);
 
+/* Window: List for an order, and then a run of records, each of which adds an image of the list to a table of entries
+ * from 0 to 1,000,000. A window holds the last `width` records, or all while fewer have come, and the tables that they
+ * ended in; the starting table is in none. Slices are lent as above; other than there are
+ *
+ *   start         exactly n numbers: the starting table
+ *   width         the most records of a window, 1 to 256
+ *   cell          the chosen cell, 1 to n
+ *   records       3 to a record, any number of records: a row of the list, a position and a sign (1 or -1)
+ *   answers       written: n + 3 to a row, as many rows as records or more
+ *   counts        written: 5 numbers or more
+ *
+ * Returned is
+ *   r >= 0  the number of records. The list and group areas hold what List leaves there. The answers area holds a row
+ *           for each record: the table that it ended in, the smallest and the largest value of the chosen cell in the
+ *           window's tables, and how many different rows of the list, by their numbers, the window's records name. The
+ *           counts area holds records, rows, g, k, sums. Behind that each area holds zeros.
+ *   r < 0   -(32 * place + number) of a refusal. After 25 the answers area holds the rows of the records before it, and
+ *           zeros behind them; every other written area, and after any other refusal this one too, holds zeros alone.
+ *
+ * An order meets the refusals of List, and then come these:
+ *    6      width or cell is not as said here, or the size of start, records or    0
+ *           answers
+ *   14      an entry of start is not 0 to 1,000,000                                cell, counted from 0
+ *   25      a record names no image, since its row, its position or its sign is    record
+ *           none, or makes an entry of the table that is not 0 to 1,000,000; at
+ *           the place 2^58 or later, which no memory holds, 6 at 0 instead
+ *    6      the counts area has fewer than 5 numbers, and nothing else is met      0
+ */
+int64_t sukoreta_lent_window(size_t n, const int32_t *generators, size_t generators_length, const uint8_t *exchanges,
+                             size_t exchanges_length, const int64_t *images, size_t images_length,
+                             const int32_t *start, size_t start_length, size_t width, size_t cell,
+                             const int32_t *records, size_t records_length, int32_t *list, size_t list_length,
+                             uint8_t *group, size_t group_length, int32_t *answers, size_t answers_length,
+                             uint64_t *counts, size_t counts_length);
+
 #ifdef __cplusplus
 }
 #endif

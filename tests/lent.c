@@ -1,20 +1,20 @@
-// Makes the lent calls that it is told to on its standard input, and writes what they give, for tests/lent and
-// tests/sessions.
+// Makes the lent calls that it is told to on its standard input, and writes what they give, for tests/lent,
+// tests/sessions and tests/windows.
 //
-// A call comes as a service (one byte: 0 List, 1 Split, 2 Check, 3 List with coefficients, 4 a session), n, of a
-// session both, the length of each slice behind a byte that says how it is lent (below), and the numbers of the slices
-// that are read; n and the lengths have eight bytes. Slices come as the parameters stand, but a session's steps before
-// its areas, the counts area as the last, and every number as this machine holds it. A call is made twice, with each
-// slice bordering on pages that may not be touched, first at their ends and then at their starts; areas to be written
-// are full of other bytes before. Written are the result (eight bytes), a byte with the faults below, and these areas.
-// A call that takes more than a minute ends the program.
+// A call comes as a service (one byte: 0 List, 1 Split, 2 Check, 3 List with coefficients, 4 a session, 5 a window), n,
+// of a session both, of a window its width and cell behind n, the length of each slice behind a byte that says how it
+// is lent (below), and the numbers of the slices that are read; n, width, cell and the lengths have eight bytes. Slices
+// come as the parameters stand, but a session's steps before its areas, the counts area as the last, and every number
+// as this machine holds it. A call is made twice, with each slice bordering on pages that may not be touched, first at
+// their ends and then at their starts; areas to be written are full of other bytes before. Written are the result
+// (eight bytes), a byte with the faults below, and these areas. A call that takes more than a minute ends the program.
 #include <string.h>
 
 #include "pages.h"
 #include "sukoreta.h"
 
-enum { LIST, SPLIT, CHECK, LIST_WITH_COEFFICIENTS, SESSION, SERVICES };
-enum { ORDERS = 2, SLICES = 10, ROOM = 1 << 20, BORDER = 64 };
+enum { LIST, SPLIT, CHECK, LIST_WITH_COEFFICIENTS, SESSION, WINDOW, SERVICES };
+enum { ALONE = 3, SLICES = 10, ROOM = 1 << 20, BORDER = 64 };
 enum { DIFFERENT = 1, BESIDE = 2, CHANGED = 4 };
 // A slice stands between its pages, is a null pointer of length 0, or, for lengths past every room, is zeros that are
 // not sent and can only be read.
@@ -22,10 +22,10 @@ enum { PLACED, ABSENT, FAR };
 
 static const size_t FAR_ROOM = (size_t)1 << 36;
 
-// The orders of a service, each with an n, and its slices: those that are read come first, and each has numbers of so
-// many bytes.
+// The numbers of a service that come alone, n first, and its slices: those that are read come first, and each has
+// numbers of so many bytes.
 static const struct {
-    size_t orders;
+    size_t alone;
     int read, all;
     size_t width[SLICES];
 } SHAPES[SERVICES] = {
@@ -34,6 +34,7 @@ static const struct {
     [CHECK] = {1, 5, 7, {4, 1, 8, 4, 8, 1, 8}},
     [LIST_WITH_COEFFICIENTS] = {1, 3, 7, {4, 1, 8, 4, 1, 8, 8}},
     [SESSION] = {2, 7, 10, {4, 1, 8, 4, 1, 8, 1, 4, 1, 8}},
+    [WINDOW] = {3, 5, 9, {4, 1, 8, 4, 4, 4, 1, 4, 8}},
 };
 
 struct slice {
@@ -42,7 +43,7 @@ struct slice {
 };
 
 static uint8_t service;
-static size_t n[ORDERS];
+static size_t alone[ALONE];
 static struct slice slices[SLICES];
 static struct pages pages[SLICES];
 static uint8_t *far_zeros;
@@ -53,20 +54,24 @@ static uint8_t sent[SLICES][ROOM], first_areas[SLICES][ROOM], areas[SLICES][ROOM
 // The call, with slices that start at these places.
 static int64_t called(void *const *at) {
     if (service == LIST)
-        return sukoreta_lent_list(n[0], SLICE(int32_t, 0), SLICE(uint8_t, 1), SLICE(int64_t, 2), SLICE(int32_t, 3),
+        return sukoreta_lent_list(alone[0], SLICE(int32_t, 0), SLICE(uint8_t, 1), SLICE(int64_t, 2), SLICE(int32_t, 3),
                                   SLICE(uint8_t, 4), SLICE(uint64_t, 5));
     if (service == SPLIT)
-        return sukoreta_lent_split(n[0], SLICE(int32_t, 0), SLICE(uint8_t, 1), SLICE(int64_t, 2), SLICE(int32_t, 3),
+        return sukoreta_lent_split(alone[0], SLICE(int32_t, 0), SLICE(uint8_t, 1), SLICE(int64_t, 2), SLICE(int32_t, 3),
                                    SLICE(int32_t, 4), SLICE(uint8_t, 5), SLICE(int32_t, 6), SLICE(uint64_t, 7));
     if (service == LIST_WITH_COEFFICIENTS)
-        return sukoreta_lent_list_with_coefficients(n[0], SLICE(int32_t, 0), SLICE(uint8_t, 1), SLICE(int64_t, 2),
+        return sukoreta_lent_list_with_coefficients(alone[0], SLICE(int32_t, 0), SLICE(uint8_t, 1), SLICE(int64_t, 2),
                                                     SLICE(int32_t, 3), SLICE(uint8_t, 4), SLICE(int64_t, 5),
                                                     SLICE(uint64_t, 6));
     if (service == SESSION)
-        return sukoreta_lent_session(n[0], SLICE(int32_t, 0), SLICE(uint8_t, 1), SLICE(int64_t, 2),
-                                     n[1], SLICE(int32_t, 3), SLICE(uint8_t, 4), SLICE(int64_t, 5),
+        return sukoreta_lent_session(alone[0], SLICE(int32_t, 0), SLICE(uint8_t, 1), SLICE(int64_t, 2),
+                                     alone[1], SLICE(int32_t, 3), SLICE(uint8_t, 4), SLICE(int64_t, 5),
                                      SLICE(int32_t, 7), SLICE(uint8_t, 8), SLICE(uint8_t, 6), SLICE(uint64_t, 9));
-    return sukoreta_lent_check(n[0], SLICE(int32_t, 0), SLICE(uint8_t, 1), SLICE(int64_t, 2), SLICE(int32_t, 3),
+    if (service == WINDOW)
+        return sukoreta_lent_window(alone[0], SLICE(int32_t, 0), SLICE(uint8_t, 1), SLICE(int64_t, 2),
+                                    SLICE(int32_t, 3), alone[1], alone[2], SLICE(int32_t, 4), SLICE(int32_t, 5),
+                                    SLICE(uint8_t, 6), SLICE(int32_t, 7), SLICE(uint64_t, 8));
+    return sukoreta_lent_check(alone[0], SLICE(int32_t, 0), SLICE(uint8_t, 1), SLICE(int64_t, 2), SLICE(int32_t, 3),
                                SLICE(int64_t, 4), SLICE(uint8_t, 5), SLICE(uint64_t, 6));
 }
 
@@ -108,7 +113,7 @@ static bool get(void *to, size_t bytes) {
 
 // Reads a call; whether it is whole and there is room for it.
 static bool told(void) {
-    if (service >= SERVICES || !get(n, SHAPES[service].orders * sizeof *n)) return false;
+    if (service >= SERVICES || !get(alone, SHAPES[service].alone * sizeof *alone)) return false;
     int read = SHAPES[service].read, all = SHAPES[service].all;
     for (int i = 0; i < all; i++) {
         struct slice *s = &slices[i];

@@ -1,6 +1,7 @@
 // Measures the stack that each call takes, on orders that go through every part of it, and holds it to a bound. Each
 // call is made with all moves of a table, and then bare, with a basis of them, which List with coefficients alone
-// refuses; what is printed is the most of both. A session has the same order twice, and must finish both.
+// refuses; what is printed is the most of both. A session has the same order twice, and must finish both. The records
+// of a window draw images of all rows at all positions, more often than the window is wide.
 //
 // A call is made in a thread whose stack was filled before: what is changed afterwards was taken. What the thread takes
 // itself, found by a call that does nothing, is not counted. The last line is 'N passed, M failed'.
@@ -13,11 +14,13 @@
 #include "sukoreta.h"
 
 enum { STACK = 1 << 20, BOUND = 400000, FILLED = 0xa5, N = 16, MOVES = 36, BASIS = 9, SENT = 7, STEPS = 1 << 17 };
+enum { WIDTH = 256, RECORDS = 2 * 1152 };
 
 static uint8_t stack[STACK] __attribute__((aligned(4096)));
 static int32_t generators[MOVES * N], list[128 * N], pieces[256], vector[N], rows[128 * N];
 static uint8_t exchanges[SENT * N], group[1152 * N], order[SUKORETA_ORDER_LIMIT], answer[SUKORETA_ANSWER_LIMIT];
 static uint8_t steps[STEPS];
+static int32_t start[N], records[3 * RECORDS], answers[RECORDS * (N + 3)];
 static uint64_t counts[10];
 static int64_t images[SENT * BASIS * BASIS], coefficients[128 * MOVES], written[128 * MOVES], result;
 static size_t moves, image_count, order_length, row_count;
@@ -140,6 +143,13 @@ static void *lent_session(void *x) {
     return x;
 }
 
+static void *lent_window(void *x) {
+    result = sukoreta_lent_window(N, generators, moves * N, exchanges, SENT * N, images, image_count, start, N, WIDTH,
+                                  N, records, 3 * RECORDS, list, 128 * N, group, 1152 * N, answers,
+                                  RECORDS * (N + 3), counts, 5);
+    return x;
+}
+
 static void *call_list(void *x) {
     result = sukoreta_list(order, order_length, answer, sizeof answer);
     return x;
@@ -168,6 +178,16 @@ static size_t taken(void *(*call)(void *)) {
     return STACK - free;
 }
 
+// A table and a run on it: each image is added, and taken back at once.
+static void make_run(void) {
+    for (int j = 0; j < N; j++) start[j] = 4;
+    for (int i = 0; i < RECORDS; i++) {
+        records[3 * i] = (int32_t)((size_t)i / 2 % row_count);
+        records[3 * i + 1] = i / 2;
+        records[3 * i + 2] = i % 2 ? -1 : 1;
+    }
+}
+
 // An order that every call accepts: the vector is a sum of moves, and the brought list is the one that List finds.
 static void make(bool bare) {
     make_generators(bare);
@@ -177,9 +197,10 @@ static void make(bool bare) {
     row_count = result < 0 ? 0 : (size_t)result;
     memcpy(rows, list, sizeof rows);
     make_coefficients(bare);
+    if (row_count) make_run();
 }
 
-enum { CALLED = 8 };
+enum { CALLED = 9 };
 
 int main(void) {
     static const struct {
@@ -192,6 +213,7 @@ int main(void) {
                        {"sukoreta_lent_split", lent_split, 1, true},
                        {"sukoreta_lent_check", lent_check, 2, true},
                        {"sukoreta_lent_session", lent_session, 0, true},
+                       {"sukoreta_lent_window", lent_window, 0, true},
                        {"sukoreta_list", call_list, 0, true},
                        {"sukoreta_split", call_split, 1, true},
                        {"sukoreta_check", call_check, 2, true}};

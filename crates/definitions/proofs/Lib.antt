@@ -1,3 +1,4 @@
 pub mod Samples
 pub mod CertifiedSamples
 pub mod SessionSamples
+pub mod WindowSamples

@@ -12,8 +12,8 @@ use Rattle.definitions.specs.declared.Ending.the-variants.{Moves, Unfini
 use Rattle.definitions.specs.declared.Fault.the-variants.{None, At}
 use Rattle.definitions.specs.Limits.{entryLimit, sessionRows, storedCoefficientLimit}
 use Rattle.definitions.specs.Lists.{concat}
-use Rattle.definitions.specs.Vector.{Vector, total, within, opposes}
-use Rattle.definitions.specs.Lattice.{Graver, combination}
+use Rattle.definitions.specs.Vector.{Vector, plus, total, within, opposes}
+use Rattle.definitions.specs.Lattice.{Graver, InLattice, combination}
 use Rattle.definitions.specs.Group.{Exchange, InGroup, exchanged, earlier}
 use Rattle.definitions.specs.Orbit.{IsImage, signed, representative, precedes}
 use Rattle.definitions.specs.Completion.{sumCount}
@@ -22,6 +22,7 @@ use Rattle.definitions.specs.Lent.{Order, filled, generatorsOf, exchange
 use Rattle.definitions.specs.Refusals.{accepted}
 use Rattle.definitions.specs.Calls.{Listing, ListEnd, CertifiedListing, listCall, listing, checkCall, rulesFault}
 use Rattle.definitions.specs.Session.{Part, SessionEnd, differenceFault, half, ownFault, sharedFault}
+use Rattle.definitions.specs.Window.{isContingency}
 
 -- 2.8: v is an image of exactly one row
 pub record OneRow (n : ℕ) (sent : List Exchange) (rows : List Vector) (v : Vector) : Type 0 where
@@ -174,3 +175,12 @@ pub record AreasKept (first second : Order) (listSize groupSize : ℕ) (end : Se
   pub secondLeft : Left (end .second) → TableKept first second listSize groupSize (end .group)
   pub zeros : (m p m′ p′ : ℕ) → end .first ≡ Refused m p → end .second ≡ Refused m′ p′
       → (end .list ≡ replicate listSize (pos 0)) × (end .group ≡ replicate groupSize 0)
+
+-- ---- 3.9: windows
+
+-- a contingency table that a run reaches: its start plus a lattice vector, every entry within its limits
+pub record Reached (order : Order) (start table : Vector) : Type 0 where
+  pub move : Vector
+  pub inLattice : InLattice (generatorsOf order) move
+  pub addsUp : table ≡ plus start move
+  pub entries : isContingency table ≡ true

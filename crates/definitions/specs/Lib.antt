@@ -12,7 +12,9 @@ pub mod Lent
 pub mod Refusals
 pub mod Calls
 pub mod Session
+pub mod Window
 pub mod Demands
 pub mod Samples
 pub mod CertifiedSamples
 pub mod SessionSamples
+pub mod WindowSamples

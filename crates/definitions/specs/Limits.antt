@@ -49,6 +49,18 @@ coefficientLimit = 1_000_000
 abbrev pub storedCoefficientLimit : ℕ
 storedCoefficientLimit = 1_000_000
 
+-- 14 and 25: the greatest entry of a contingency table
+abbrev pub contingencyLimit : ℕ
+contingencyLimit = 1_000_000
+
+-- 3.9: the most records of a window
+abbrev pub windowLimit : ℕ
+windowLimit = 256
+
+-- the numbers that a record of a run takes
+abbrev pub recordWidth : ℕ
+recordWidth = 3
+
 -- the numbers that a piece takes in the pieces area
 abbrev pub pieceWidth : ℕ
 pieceWidth = 4

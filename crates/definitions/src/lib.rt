@@ -48,6 +48,35 @@ pub struct Session {
     pub second: Ending,
 }
 
+// What a run of draws answers (Specification 3.9): the number of its records and the counts of its List, or a refusal.
+pub enum Run {
+    Answered {
+        records: u64,
+        rows: u64,
+        members: u64,
+        stored: u64,
+        sums: u64,
+    },
+    Refused {
+        number: u64,
+        place: u64,
+    },
+}
+
+// A record of a run, as it is sent: the row, the position and the sign of a listed image.
+pub struct Draw {
+    pub row: i32,
+    pub position: i32,
+    pub sign: i32,
+}
+
+// What answer rows show: tables of n cells, the last `width` records, and one chosen cell, from 1.
+pub struct View {
+    pub n: usize,
+    pub width: usize,
+    pub cell: usize,
+}
+
 // What a test finds: nothing, or the number and the place of a refusal.
 pub enum Fault {
     None,

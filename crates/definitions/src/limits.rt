@@ -36,6 +36,15 @@ pub const COEFFICIENT_LIMIT: u32 = 1_000_000;
 // 24: the greatest absolute value of a coefficient of a stored row.
 pub const STORED_COEFFICIENT_LIMIT: u32 = 1_000_000;
 
+// 14 and 25: the greatest entry of a contingency table.
+pub const CONTINGENCY_LIMIT: i32 = 1_000_000;
+
+// The most records of a window.
+pub const WINDOW_LIMIT: usize = 256;
+
+// The numbers that a record of a run takes.
+pub const RECORD_WIDTH: usize = 3;
+
 // The numbers that a piece takes in the pieces area.
 pub const PIECE_WIDTH: usize = 4;
 

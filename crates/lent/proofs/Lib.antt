@@ -4,3 +4,4 @@ pub mod Reporting
 pub mod Ending
 pub mod Calls
 pub mod Sessions
+pub mod Windows

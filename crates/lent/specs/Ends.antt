@@ -1,8 +1,9 @@
 -- How a lent call for C ends (Specification 1.1 and 9.4): its result, and its counts in an area. Assumes nothing.
 use mathlib.Core.Path.{_≡_}
+use mathlib.Core.Bool.{Bool}
 use mathlib.Core.List.{List, [], _∷_, _++_}
 use Prim.Native.Nat.{ℕ, _+_, _<_, _^_}
-use lib.Dec.{leb}
+use lib.Dec.{leb, ltb}
 use lib.IntN.{ℤ, pos}
 use lib.ListN.{length, getD}
 use Rattle.definitions.specs.declared.Answer.{Answer}
@@ -10,6 +11,8 @@ use Rattle.definitions.specs.declared.Answer.the-variants.{Moves, Split, Passed
 use Rattle.definitions.specs.declared.Ending.{Ending}
 use Rattle.definitions.specs.declared.Ending.the-variants as ending
 use Rattle.definitions.specs.declared.Fault.the-variants.{At}
+use Rattle.definitions.specs.declared.Run.{Run}
+use Rattle.definitions.specs.declared.Run.the-variants as run
 use Rattle.definitions.specs.declared.Session.{Session}
 use Rattle.definitions.specs.Lists.{if_then_else_}
 use Rattle.definitions.specs.Lent.{Order, filled}
@@ -17,7 +20,8 @@ use Rattle.definitions.specs.Refusals.{refused}
 use Rattle.definitions.specs.Calls.{ListEnd, CertifiedEnd, SplitEnd, CheckEnd, listCall, listEnd, splitCall, splitEnd}
 use Rattle.definitions.specs.Calls.{certifiedCall, certifiedEnd}
 use Rattle.definitions.specs.Calls.{checkCall, checkEnd}
-use Rattle.answers.specs.Refusal.{refusalCode, refusalOf}
+use Rattle.definitions.specs.Window.{Chain, Room, WindowEnd, windowCall, windowRefused}
+use Rattle.answers.specs.Refusal.{placeFactor, refusalCode, refusalOf}
 
 -- 1.1: the counts of an answer; a refusal has none
 abbrev pub countsOf : Answer → List ℕ
@@ -104,3 +108,36 @@ finishedIn (ending.Refused number place) = 0
 -- the number of finished orders
 abbrev pub finishedOf : Session → ℕ
 finishedOf answer = finishedIn (answer .first) + finishedIn (answer .second)
+
+-- ---- Window
+
+-- 3.9: the counts of a run; a refusal has none
+abbrev pub runCounts : Run → List ℕ
+runCounts (run.Answered records rows members stored sums) = records ∷ rows ∷ members ∷ stored ∷ sums ∷ []
+runCounts (run.Refused number place) = []
+
+-- its result: the number of its records, or its refusal
+abbrev pub runResult : Run → ℤ
+runResult (run.Answered records rows members stored sums) = pos records
+runResult (run.Refused number place) = refusalOf number place
+
+-- it can be returned as a signed number of 64 bits, if its place is below 2 ^ 58
+abbrev pub RunSmall : Run → Type 0
+RunSmall (run.Answered records rows members stored sums) = records < 2 ^ 63
+RunSmall (run.Refused number place) = number < placeFactor
+
+-- it can be told with a counts area of `size` numbers: there is room for its counts, or its refusal fits into a result
+abbrev pub isTold : Run → (size : ℕ) → Bool
+isTold (run.Answered records rows members stored sums) size = leb 5 size
+isTold (run.Refused number place) size = ltb place (2 ^ 58)
+
+-- the run is reported: its result, and its counts in an area, with zeros behind them
+pub record RunReports (run : Run) (size : ℕ) (result : ℤ) (counts : List ℕ) : Type 0 where
+  pub results : result ≡ runResult run
+  pub countsHold : counts ≡ filled 0 size (runCounts run)
+
+-- the call ends as that without counts does, or with 6 at 0 where that cannot be told
+unfoldable pub lentWindow : Order → Chain → Room → (countsSize : ℕ) → WindowEnd
+lentWindow order chain room countsSize =
+    let end = windowCall order chain room in
+    if isTold (end .answer) countsSize then end else windowRefused room 6 0 []

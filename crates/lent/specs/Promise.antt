@@ -9,19 +9,23 @@ use lib.ListN.{length, replicate}
 use denote.Ref.{now}
 use Rattle.definitions.specs.declared.Answer.{Answer}
 use Rattle.definitions.specs.declared.Answer.the-variants.{Passed}
+use Rattle.definitions.specs.declared.Run.{Run}
 use Rattle.definitions.specs.declared.Session.{Session}
 use Rattle.definitions.specs.Vector.{padded}
 use Rattle.definitions.specs.Lattice.{InLattice}
 use Rattle.definitions.specs.Lent.{Order, exchangesOf, filled, generatorsOf, vectorsOf}
 use Rattle.definitions.specs.Calls.{ListEnd, CertifiedEnd, SplitEnd, CheckEnd}
+use Rattle.definitions.specs.Window.{Chain, Room, WindowEnd}
 use Rattle.definitions.specs.Demands.{RulesKept, Whole}
 use Rattle.vectors.specs.Areas.{Lent, sentOrder}
 use Rattle.moves.specs.Promise.{CheckPassed, ListAccepted, ListZero, PastEntries, SplitAccepted, SplitZero}
 use Rattle.certified_lists.specs.Promise.{CertifiedAccepted, CertifiedZero}
 use Rattle.sessions.specs.Promise.{SessionPromise}
+use Rattle.windows.specs.Promise.{RecordRefused, WindowAccepted, WindowZero}
 use Rattle.answers.specs.Refusal.{refusalOf}
 use Rattle.lent.specs.Ends.{countsOf, lentCertified, lentCheck, lentList, lentSplit, resultOf}
 use Rattle.lent.specs.Ends.{finishedOf, sessionCounts, sessionSize}
+use Rattle.lent.specs.Ends.{lentWindow, runCounts, runResult}
 
 -- an answer was returned, and its counts stand in their area
 pub record Returned (answer : Answer) (result : ℤ) (counts : List ℕ) : Type 0 where
@@ -190,3 +194,42 @@ abbrev pub KeepsLentSession : (first second : Order) (list : Lent ℤ) (group st
 KeepsLentSession first second list group steps counts result =
     SessionLent first second (now (steps .entry)) result
     (now (list .exit)) (now (group .exit)) (now (counts .exit))
+
+-- ---- Window
+
+-- a run was returned, and its counts stand in their area
+pub record RunReturned (answer : Run) (result : ℤ) (counts : List ℕ) : Type 0 where
+  pub results : result ≡ runResult answer
+  pub countsHold : counts ≡ filled 0 (length counts) (runCounts answer)
+
+-- the end that is due
+abbrev pub windowDue : Order → Chain → (list : List ℤ) (group : List ℕ) (answers : List ℤ) (counts : List ℕ) → WindowEnd
+windowDue order chain list group answers counts =
+    let room : Room = record { list = length list; group = length group; answers = length answers } in
+    lentWindow order chain room (length counts)
+
+-- a result that is no refusal: what `WindowPromise` says of a run whose records all have answers
+pub record WindowGiven (order : Order) (chain : Chain) (result : ℤ) (list : List ℤ) (group : List ℕ)
+    (answers : List ℤ) (counts : List ℕ) : Type 0 where
+  pub answer : Run
+  pub kept : WindowAccepted order chain answer list group answers
+  pub returned : RunReturned answer result counts
+
+-- sukoreta_lent_window: the result and the areas by the definition; and what a reader may conclude from the result
+pub record WindowLent (order : Order) (chain : Chain) (result : ℤ) (list : List ℤ) (group : List ℕ)
+    (answers : List ℤ) (counts : List ℕ) : Type 0 where
+  pub returned : RunReturned (windowDue order chain list group answers counts .answer) result counts
+  pub listHolds : list ≡ windowDue order chain list group answers counts .list
+  pub groupHolds : group ≡ windowDue order chain list group answers counts .group
+  pub answersHold : answers ≡ windowDue order chain list group answers counts .answers
+  pub accepted : (k : ℕ) → result ≡ pos k → WindowGiven order chain result list group answers counts
+  pub recordRefused : (place : ℕ) → result ≡ refusalOf 25 place
+      → RecordRefused order chain place list group answers × CountsZero counts
+  pub refused : (k : ℕ) → result ≡ negsuc k → ((place : ℕ) → ¬ (result ≡ refusalOf 25 place))
+      → WindowZero list group answers × CountsZero counts
+
+-- .. of the order and the chain that are sent, in the areas that are lent
+abbrev pub KeepsLentWindow : Order → Chain → (list : Lent ℤ) (group : Lent ℕ) (answers : Lent ℤ) (counts : Lent ℕ)
+    (result : ℤ) → Type 0
+KeepsLentWindow order chain list group answers counts result =
+    WindowLent order chain result (now (list .exit)) (now (group .exit)) (now (answers .exit)) (now (counts .exit))

@@ -1,26 +1,37 @@
 // The lent calls for C (Specification 1.1): numbers and slices, and an area for the counts of the answer.
 ghost use mathlib.Core.Path.{_≡_};
+ghost use mathlib.Core.Bool.{true};
 ghost use Prim.Native.Nat.{_≤_, _<_, _^_};
 ghost use lib.IntN.{pos};
 ghost use lib.ListN.{length, getD, take};
 ghost use Rattle.definitions.specs.Lent.{filled};
 ghost use Rattle.vectors.specs.Areas.{sentOrder};
+ghost use Rattle.windows.specs.Promise.{sentChain};
 ghost use Rattle.lent.specs.Ends.{Gives, Reports, Small};
 ghost use Rattle.lent.specs.Ends.{endingCounts, finishedIn, finishedOf, sessionCounts, sessionSize};
 ghost use Rattle.lent.specs.Promise.{KeepsLentCertified, KeepsLentCheck, KeepsLentList, KeepsLentSplit};
-ghost use Rattle.lent.specs.Promise.{KeepsLentSession};
+ghost use Rattle.lent.specs.Ends.{RunReports, RunSmall, isTold};
+ghost use Rattle.lent.specs.Promise.{KeepsLentSession, KeepsLentWindow};
 use answers::refusal;
 use certified_lists::list_with_coefficients;
 use coefficients::clear_coefficients;
 use definitions::Answer;
 use definitions::Ending;
+use definitions::Run;
 use definitions::Session;
 use sessions::session;
 use vectors::clear;
 use vectors::clear_bytes;
+use windows::window;
 
 // The counts of a session.
 const SESSION_COUNTS: usize = 10;
+
+// The counts of a run.
+const RUN_COUNTS: usize = 5;
+
+// The first place of a refusal for which a result has no room (Specification 9.4).
+const PLACE_LIMIT: u64 = 288_230_376_151_711_744;
 
 // Number i of the first k; 0 behind them.
 fn count_at(numbers: &[u64], k: usize, i: usize) -> u64
@@ -327,4 +338,96 @@ pub extern "C" fn sukoreta_lent_session(
     }
     lay_session(counts, answer);
     finished(answer)
+}
+
+// Whether a run can be told: there is room for its counts, or the place of its refusal fits into a result.
+fn is_told(run: Run, size: usize) -> bool
+    ensures told { λ r. ⌜ r ≡ isTold run size ⌝ }
+{
+    match run {
+        Run::Answered {
+            records,
+            rows,
+            members,
+            stored,
+            sums,
+        } => RUN_COUNTS <= size,
+        Run::Refused { number, place } => place < PLACE_LIMIT,
+    }
+}
+
+// The result of a run that can be told, and its counts in their area.
+fn report_run(area: &mut [u64], run: Run) -> i64
+    requires told { ⌜ isTold run (length (now area)) ≡ true ⌝ }
+    requires small { ⌜ RunSmall run ⌝ }
+    ensures reported { λ r. ⌜ RunReports run (length (now (area .entry))) r (now (area .exit)) ⌝ }
+{
+    match run {
+        Run::Answered {
+            records,
+            rows,
+            members,
+            stored,
+            sums,
+        } => {
+            let numbers = [records, rows, members, stored, sums];
+            lay_counts(area, &numbers, RUN_COUNTS);
+            records as i64
+        }
+        Run::Refused { number, place } => {
+            let none = [0u64; 1];
+            lay_counts(area, &none, 0);
+            refusal(number, place)
+        }
+    }
+}
+
+// The window over a run of draws on lent areas, for C (Specification 1.1 and 3.9): the number of records, or a refusal
+// as one number; records, and the counts of its list, in the counts area.
+#[no_mangle]
+pub extern "C" fn sukoreta_lent_window(
+    n: usize,
+    generators: &[i32],
+    exchanges: &[u8],
+    images: &[i64],
+    start: &[i32],
+    width: usize,
+    cell: usize,
+    records: &[i32],
+    list: &mut [i32],
+    group: &mut [u8],
+    answers: &mut [i32],
+    counts: &mut [u64],
+) -> i64
+    ensures kept { λ r. ⌜
+        (let order = sentOrder n generators exchanges images in
+        KeepsLentWindow order (sentChain start width cell records) list group answers counts r)
+        ⌝ }
+{
+    let run = window(
+        n,
+        generators,
+        exchanges,
+        images,
+        start,
+        width,
+        cell,
+        records,
+        &mut *list,
+        &mut *group,
+        &mut *answers,
+    );
+    if is_told(run, counts.len()) {
+        return report_run(counts, run);
+    }
+    clear(list, 0);
+    clear_bytes(group, 0);
+    clear(answers, 0);
+    report(
+        counts,
+        Answer::Refused {
+            number: 6,
+            place: 0,
+        },
+    )
 }

@@ -36,7 +36,7 @@ pub const MARKS: usize = LIST_LIMIT * GROUP_LIMIT;
 pub const KEYS: usize = 8_192;
 
 // What a List finds: the numbers of its answer.
-enum Listed {
+pub enum Listed {
     Found {
         rows: u64,
         members: u64,
@@ -50,11 +50,11 @@ enum Listed {
 }
 
 // The numbers of an accepted List.
-struct Numbers {
-    rows: u64,
-    members: u64,
-    stored: u64,
-    sums: u64,
+pub struct Numbers {
+    pub rows: u64,
+    pub members: u64,
+    pub stored: u64,
+    pub sums: u64,
 }
 
 // What a Check finds: the numbers of its answer.
@@ -104,7 +104,7 @@ fn complete_list(generators: &[i32], list: &mut [i32], group: &[u8], shape: Shap
 }
 
 // 5 to 13 and 23, and the areas of an accepted List (Specification 7.1).
-fn make_list(
+pub fn make_list(
     n: usize,
     generators: &[i32],
     exchanges: &[u8],

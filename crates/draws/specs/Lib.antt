@@ -1,0 +1,3 @@
+-- The records of a run, and the answer rows that a lent area shows.
+pub mod Draws
+pub mod Run

@@ -1,0 +1,2 @@
+-- The figures of a window, read from lent areas.
+pub mod Window
