@@ -61,6 +61,10 @@ windowLimit = 256
 abbrev pub recordWidth : ℕ
 recordWidth = 3
 
+-- the numbers of an answer row of a run behind its contingency table: the smallest, the largest, the different rows
+abbrev pub figuresWidth : ℕ
+figuresWidth = 3
+
 -- the numbers that a piece takes in the pieces area
 abbrev pub pieceWidth : ℕ
 pieceWidth = 4

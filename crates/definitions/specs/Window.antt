@@ -13,7 +13,7 @@ use Rattle.definitions.specs.declared.Fault.the-variants.{None, At}
 use Rattle.definitions.specs.declared.Run.{Run}
 use Rattle.definitions.specs.declared.Run.the-variants.{Answered, Refused}
 use Rattle.definitions.specs.declared.View.{View}
-use Rattle.definitions.specs.Limits.{contingencyLimit, recordWidth, windowLimit}
+use Rattle.definitions.specs.Limits.{contingencyLimit, figuresWidth, recordWidth, windowLimit}
 use Rattle.definitions.specs.Lists.{if_then_else_, any, concat, every}
 use Rattle.definitions.specs.Vector.{Vector, padded, plus}
 use Rattle.definitions.specs.Group.{Exchange, exchanged}
@@ -112,11 +112,12 @@ different (x ∷ numbers) =
 unfoldable pub valueOf : (cell : ℕ) → Visit → ℤ
 valueOf cell visit = getD (visit .reached) (cell - 1) (pos 0)
 
--- the numbers of an answer row: the table, the smallest and the largest value, the number of different rows
+-- the numbers of an answer row: the contingency table and the figures
 abbrev pub answerWidth : (n : ℕ) → ℕ
-answerWidth n = n + 3
+answerWidth n = n + figuresWidth
 
--- the answer row of the latest record of a window, which is read afresh
+-- the answer row of the latest record of a window, which is read afresh: the contingency table, the smallest and the
+-- largest value of the chosen cell, and the number of different rows
 unfoldable pub answerRow : View → (latest : Visit) (window : List Visit) → List ℤ
 answerRow view latest window =
     let values = map (valueOf (view .cell)) window in

@@ -45,6 +45,9 @@ pub const WINDOW_LIMIT: usize = 256;
 // The numbers that a record of a run takes.
 pub const RECORD_WIDTH: usize = 3;
 
+// The numbers of an answer row of a run behind its contingency table.
+pub const FIGURES_WIDTH: usize = 3;
+
 // The numbers that a piece takes in the pieces area.
 pub const PIECE_WIDTH: usize = 4;
 

@@ -7,7 +7,7 @@ ghost use Prim.Native.Nat.{suc, _+_, _/_, _≤_, _<_};
 ghost use lib.IntN.{pos};
 ghost use lib.ListN.{length, getD, take};
 ghost use Rattle.definitions.specs.Limits.{cells, recordWidth, windowLimit};
-ghost use Rattle.definitions.specs.Window.{chainFault, chainFits, drawOf, drawnImage, drawsOf};
+ghost use Rattle.definitions.specs.Window.{answerWidth, chainFault, chainFits, drawOf, drawnImage, drawsOf};
 ghost use Rattle.definitions.specs.Window.{isContingency, isEntry, isIndex};
 ghost use Rattle.figures.specs.Window.{Named, Rows, Viewable};
 ghost use Rattle.draws.specs.Draws.{Draws, Filled, Listed};
@@ -18,6 +18,7 @@ use definitions::Fault;
 use definitions::View;
 use definitions::limits::CELLS;
 use definitions::limits::CONTINGENCY_LIMIT;
+use definitions::limits::FIGURES_WIDTH;
 use definitions::limits::LIST_LIMIT;
 use definitions::limits::RECORD_WIDTH;
 use definitions::limits::WINDOW_LIMIT;
@@ -89,7 +90,7 @@ fn chain_fits(start: &[i32], view: View, records: &[i32], answers: usize) -> boo
     requires narrow { ⌜ view .n ≤ cells ⌝ }
     ensures told { λ r. ⌜ r ≡ chainFits (view .n) (chainIn view start records) answers ⌝ }
 {
-    let width = view.n + 3;
+    let width = view.n + FIGURES_WIDTH;
     let window_fits = (1 <= view.width) & (view.width <= WINDOW_LIMIT);
     let cell_fits = (1 <= view.cell) & (view.cell <= view.n);
     let start_fits = start.len() == view.n;
@@ -195,10 +196,10 @@ fn write_row(
     largest: i32,
     different: usize,
 )
-    requires row { ⌜ (n ≤ cells) × (at + (n + 3) ≤ length (now answers)) ⌝ }
+    requires row { ⌜ (n ≤ cells) × (at + answerWidth n ≤ length (now answers)) ⌝ }
     requires few { ⌜ different ≤ windowLimit ⌝ }
     ensures written { λ _. ⌜
-        take (at + (n + 3)) (now (answers .exit))
+        take (at + answerWidth n) (now (answers .exit))
         ≡ take at (now (answers .entry))
         ++ (take n table ++ smallest ∷ largest ∷ pos different ∷ [])
         ⌝ }
@@ -238,7 +239,7 @@ fn answer(
     let different = count_rows(records, &mut *uses, view.width, i, before.different);
     write_row(
         &mut *answers,
-        i * (view.n + 3),
+        i * (view.n + FIGURES_WIDTH),
         view.n,
         table,
         extremes.smallest,

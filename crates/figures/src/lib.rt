@@ -12,6 +12,7 @@ ghost use Rattle.definitions.specs.Window.{larger, lesser};
 ghost use Rattle.figures.specs.Window.{Counted, Named, Rows, Spans, Viewable};
 ghost use Rattle.figures.specs.Window.{isStale, rowIn, valueIn, valuesIn};
 use definitions::View;
+use definitions::limits::FIGURES_WIDTH;
 use definitions::limits::RECORD_WIDTH;
 use vectors::magnitude;
 
@@ -101,7 +102,7 @@ fn value_at(answers: &[i32], view: View, j: usize) -> i32
     requires row { ⌜ Rows view (now answers) (suc j) ⌝ }
     ensures value { λ r. ⌜ r ≡ valueIn view (now (answers .entry)) j ⌝ }
 {
-    answers[j * (view.n + 3) + (view.cell - 1)]
+    answers[j * (view.n + FIGURES_WIDTH) + (view.cell - 1)]
 }
 
 // The extremes of the values of the answer rows from `from` to before `to`, and of one behind them, read afresh.

@@ -11,6 +11,7 @@ use answers::put_rows;
 use answers::put_text;
 use definitions::Run;
 use definitions::limits::CONTINGENCY_LIMIT;
+use definitions::limits::FIGURES_WIDTH;
 use definitions::limits::WINDOW_LIMIT;
 use windows::window;
 
@@ -124,7 +125,7 @@ fn window_in(
     io::write_all(1, name);
     show_run(run);
     show_area(b"LIST", &*list, n);
-    show_area(b"ANSWERS", &*rows, n + 3);
+    show_area(b"ANSWERS", &*rows, n + FIGURES_WIDTH);
     show_group(&*group);
 }
 

@@ -6,6 +6,7 @@ ghost use Rattle.windows.specs.Found.{Fitting, Refuses, WindowEndsIn, dr
 use definitions::Fault;
 use definitions::Run;
 use definitions::View;
+use definitions::limits::FIGURES_WIDTH;
 use definitions::limits::RECORD_WIDTH;
 use draws::chain_fault;
 use draws::draw_records;
@@ -56,7 +57,7 @@ fn draw_listed(
     let extent = Extent { shape, k };
     let table = load(start, 0, n);
     let done = draw_records(table, records, &*list, &*group, extent, view, &mut *answers);
-    let end = done * (n + 3);
+    let end = done * (n + FIGURES_WIDTH);
     let count = records.len() / RECORD_WIDTH;
     if done < count {
         return refuse(25, done as u64, end, &mut *list, &mut *group, &mut *answers);
