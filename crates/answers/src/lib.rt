@@ -81,7 +81,7 @@ pub fn put_natural(area: &mut [u8], at: usize, x: u64) -> usize
 }
 
 // The absolute value, also of the least number.
-fn magnitude(z: i64) -> u64
+pub fn magnitude(z: i64) -> u64
     ensures absolute { λ r. ⌜ r ≡ natAbs z ⌝ }
 {
     if z < 0 {

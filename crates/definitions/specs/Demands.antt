@@ -1,9 +1,10 @@
--- Specification 2.8, 3.7, 3.8, 4.2, 5.2 and 11: what the demands promise, as types. Assumes nothing.
+-- Specification 2.8, 3.7 to 3.10, 4.2, 5.2 and 11: what the demands promise, as types. Assumes nothing.
 use mathlib.Core.Path.{_≡_}
 use mathlib.Core.Bool.{true, false}
 use mathlib.Core.List.{List, [], map, List·Memᴰ}
 use Prim.Native.Nat.{ℕ, suc, _+_, _≤_, _<_, _/_}
-use lib.IntN.{ℤ, pos}
+use lib.IntN.{ℤ, pos, _+ℤ_}
+use lib.Signed.{_≤ℤ_}
 use lib.ListN.{length, getD, replicate}
 use Rattle.definitions.specs.declared.Answer.the-variants.{Passed}
 use Rattle.definitions.specs.declared.Answer.the-variants as answers
@@ -12,7 +13,7 @@ use Rattle.definitions.specs.declared.Ending.the-variants.{Moves, Unfini
 use Rattle.definitions.specs.declared.Fault.the-variants.{None, At}
 use Rattle.definitions.specs.Limits.{entryLimit, sessionRows, storedCoefficientLimit}
 use Rattle.definitions.specs.Lists.{concat}
-use Rattle.definitions.specs.Vector.{Vector, plus, total, within, opposes}
+use Rattle.definitions.specs.Vector.{Vector, padded, plus, minus, total, within, opposes}
 use Rattle.definitions.specs.Lattice.{Graver, InLattice, combination}
 use Rattle.definitions.specs.Group.{Exchange, InGroup, exchanged, earlier}
 use Rattle.definitions.specs.Orbit.{IsImage, signed, representative, precedes}
@@ -23,6 +24,7 @@ use Rattle.definitions.specs.Refusals.{accepted}
 use Rattle.definitions.specs.Calls.{Listing, ListEnd, CertifiedListing, listCall, listing, checkCall, rulesFault}
 use Rattle.definitions.specs.Session.{Part, SessionEnd, differenceFault, half, ownFault, sharedFault}
 use Rattle.definitions.specs.Window.{isContingency}
+use Rattle.definitions.specs.Plan.{Problem, cost, feasible}
 
 -- 2.8: v is an image of exactly one row
 pub record OneRow (n : ℕ) (sent : List Exchange) (rows : List Vector) (v : Vector) : Type 0 where
@@ -184,3 +186,25 @@ pub record Reached (order : Order) (start table : Vector) : Type 0 where
   pub inLattice : InLattice (generatorsOf order) move
   pub addsUp : table ≡ plus start move
   pub entries : isContingency table ≡ true
+
+-- ---- 3.10: plans
+
+-- a plan within bounds that differs from the start by a lattice vector
+pub record Attainable (order : Order) (problem : Problem) (plan : Vector) : Type 0 where
+  pub inLattice : InLattice (generatorsOf order) (minus plan (padded (problem .start)))
+  pub withinBounds : feasible (padded (problem .upper)) plan ≡ true
+
+-- the cost of a plan
+abbrev pub totalCost : Problem → (plan : Vector) → ℤ
+totalCost problem plan = cost (padded (problem .costs)) plan
+
+-- no such plan is cheaper
+abbrev pub NoneCheaper : Order → Problem → (plan : Vector) → Type 0
+NoneCheaper order problem plan =
+    (other : Vector) → Attainable order problem other → totalCost problem plan ≤ℤ totalCost problem other
+
+-- no such plan is cheaper by more than a bound
+abbrev pub NoneCheaperBy : Order → Problem → (bound : ℕ) (plan : Vector) → Type 0
+NoneCheaperBy order problem bound plan =
+    (other : Vector) → Attainable order problem other
+    → totalCost problem plan ≤ℤ (totalCost problem other +ℤ pos bound)

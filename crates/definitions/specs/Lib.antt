@@ -13,8 +13,10 @@ pub mod Refusals
 pub mod Calls
 pub mod Session
 pub mod Window
+pub mod Plan
 pub mod Demands
 pub mod Samples
 pub mod CertifiedSamples
 pub mod SessionSamples
 pub mod WindowSamples
+pub mod PlanSamples

@@ -65,6 +65,18 @@ recordWidth = 3
 abbrev pub figuresWidth : ℕ
 figuresWidth = 3
 
+-- 26: the greatest upper bound of a cell of a plan
+abbrev pub boundLimit : ℕ
+boundLimit = 1_000_000
+
+-- 27: the greatest absolute value of a cost
+abbrev pub costLimit : ℕ
+costLimit = 1_000
+
+-- 3.10: the most steps of a budget
+abbrev pub budgetLimit : ℕ
+budgetLimit = 100_000
+
 -- the numbers that a piece takes in the pieces area
 abbrev pub pieceWidth : ℕ
 pieceWidth = 4

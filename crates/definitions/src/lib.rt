@@ -77,6 +77,36 @@ pub struct View {
     pub cell: usize,
 }
 
+// What a search for the best plan answers (Specification 3.10): that its plan is a cheapest one, or that the budget is
+// spent, with the distance bound; the steps that it took, and the counts of its List; or a refusal.
+pub enum Planned {
+    Cheapest {
+        steps: u64,
+        rows: u64,
+        members: u64,
+        stored: u64,
+        sums: u64,
+    },
+    Spent {
+        steps: u64,
+        bound: u64,
+        rows: u64,
+        members: u64,
+        stored: u64,
+        sums: u64,
+    },
+    Refused {
+        number: u64,
+        place: u64,
+    },
+}
+
+// The upper bounds and the costs of the cells of a plan.
+pub struct Terms {
+    pub upper: [i32; limits::CELLS],
+    pub costs: [i32; limits::CELLS],
+}
+
 // What a test finds: nothing, or the number and the place of a refusal.
 pub enum Fault {
     None,

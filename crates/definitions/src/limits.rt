@@ -48,6 +48,15 @@ pub const RECORD_WIDTH: usize = 3;
 // The numbers of an answer row of a run behind its contingency table.
 pub const FIGURES_WIDTH: usize = 3;
 
+// 26: the greatest upper bound of a cell of a plan.
+pub const BOUND_LIMIT: i32 = 1_000_000;
+
+// 27: the greatest absolute value of a cost.
+pub const COST_LIMIT: u32 = 1_000;
+
+// The most steps of a budget.
+pub const BUDGET_LIMIT: usize = 100_000;
+
 // The numbers that a piece takes in the pieces area.
 pub const PIECE_WIDTH: usize = 4;
 

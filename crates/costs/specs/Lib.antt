@@ -1,0 +1,2 @@
+-- What is tested of a problem.
+pub mod Problems

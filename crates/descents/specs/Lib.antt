@@ -1,0 +1,2 @@
+-- What the steps of a descent find.
+pub mod Steps
