@@ -2,7 +2,7 @@
 use mathlib.Core.Path.{_≡_}
 use mathlib.Core.Bool.{true}
 use mathlib.Core.List.{List, [], _∷_}
-use Prim.Native.Nat.{ℕ, _*_, _<_}
+use Prim.Native.Nat.{ℕ, _*_, _≤_, _<_}
 use lib.IntN.{ℤ, pos}
 use lib.ListN.{length, getD}
 use Rattle.definitions.specs.declared.Terms.{Terms}
@@ -29,6 +29,7 @@ pub record Walkable (extent : Extent) (table : List ℕ) (rows : List ℤ) (mark
 
 -- bounds and costs within their limits, and a feasible plan
 pub record Planning (terms : Terms) (x : Vector) : Type 0 where
+  pub wide : length (terms .upper) ≡ cells
   pub long : length (terms .costs) ≡ cells
   pub costs : within costLimit (terms .costs) ≡ true
   pub upper : within boundLimit (terms .upper) ≡ true
@@ -56,9 +57,10 @@ pairAt extent table rows s =
     let image = slotImage extent table rows (s .at) in
     image ∷ negative image ∷ []
 
--- a step has its gain, and is within the headroom
+-- a step has its gain, and is a vector within the headroom
 pub record Gains (terms : Terms) (x : Vector) (r : Step) : Type 0 where
   pub gain : r .gain ≡ gain terms x (r .vector)
+  pub long : length (r .vector) ≡ cells
   pub small : within headroom (r .vector) ≡ true
 
 -- the better of a step and some vectors
@@ -70,8 +72,7 @@ pub record Better (terms : Terms) (x : Vector) (vectors : List Vector) (best r :
 pub record IsBest (terms : Terms) (extent : Extent) (table : List ℕ) (rows : List ℤ) (x : Vector) (r : Step)
     : Type 0 where
   pub vector : r .vector ≡ bestStep terms (imagesIn extent table rows) x
-  pub gain : r .gain ≡ bestGain terms (imagesIn extent table rows) x
-  pub small : within headroom (r .vector) ≡ true
+  pub gains : Gains terms x r
 
 -- ---- the descent
 
@@ -81,3 +82,4 @@ pub record DescendsTo (terms : Terms) (extent : Extent) (table : List ℕ) (rows
   pub stage : record { plan = r .plan; steps = r .steps } ≡ descent terms (imagesIn extent table rows) budget start
   pub left : r .gain ≡ bestGain terms (imagesIn extent table rows) (r .plan)
   pub plan : feasible (terms .upper) (r .plan) ≡ true
+  pub bounded : r .gain ≤ cells * (costLimit * boundLimit)

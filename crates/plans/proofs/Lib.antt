@@ -1,0 +1,4 @@
+-- The search for the best plan within a budget.
+pub mod Problems
+pub mod Promised
+pub mod Endings
