@@ -72,6 +72,21 @@ def windows(runs):
         for name, width, call, call_best, plain, plain_best in runs])
 
 
+def thousands(count):
+    return short(count / 1e3)
+
+
+def plans(runs):
+    head = ["plan", "steps", "ends", "C call", "plain C", "C call / plain C", "C call, budget 0", "plain C, budget 0"]
+    return rows_of(head, [
+        [name, f"{steps:,}", "cheapest" if cheapest else "budget spent",
+         f"{thousands(call)} ({thousands(call_best)})", f"{thousands(plain)} ({thousands(plain_best)})",
+         f"{short(call / plain)} ({short(call_best / plain_best)})", f"{short(call_ms)} ({short(call_least)})",
+         f"{short(plain_ms)} ({short(plain_least)})"]
+        for name, steps, cheapest, call, call_best, call_ms, call_least, plain, plain_best, plain_ms, plain_least
+        in runs])
+
+
 # ---- the plot
 
 WIDTH, HEIGHT, LEFT, TOP = 330, 260, 60, 50  # of a panel's field, and of what stands around it
@@ -140,7 +155,7 @@ def plot(groups, stored):
 
 # ---- the page
 
-def page(about, smallest, results, groups, stored, windowed, stack, kept):
+def page(about, smallest, results, groups, stored, windowed, planned, stack, kept):
     """The text of docs/TIMES.md; what was kept stands at its end."""
     start = [in_ms(smallest.times[name]) for name in ("program", "list", "graver")]
     return f"""\
@@ -205,6 +220,19 @@ Million records a second, the median and, in brackets, the best of {about["round
 `bench/window.c` that has the list and the group's table and reads the window afresh for each record. Both wrote the
 same answers. Images are random; in "slow" none takes the chosen cell down for 2,000 records, and none up for the next
 2,000; in "straight" one image takes it up 2,000 times, and its negative down as often.
+
+## The best plan within a budget
+
+{plans(planned)}
+
+Thousand steps a second, the median and, in brackets, the best of {about["fewer"]} rounds, and milliseconds with the
+budget 0, on the 4 by 4 table with all its moves and its group of 1,152; the budget is 100,000. The C call is
+`sukoreta_lent_plan`; with the budget 0 it makes its List and searches for a step once, and this time is taken off
+before the steps are counted. Plain C is a function in `bench/plan.c` that has the list and the group's table: it forms
+the distinct images once, which is its time with the budget 0, and for each step goes through them and takes the one
+that keeps the bounds and gains the most. Both ended with the same plan, steps and distance bound. In "straight" the
+bounds are far, and one image is taken 100,000 times; in "turning" one image after the other comes to a bound; in "even"
+too, with costs of 1 and −1 like the fields of a chessboard, so that many images gain the same.
 
 ## Stack
 

@@ -244,6 +244,41 @@ int64_t sukoreta_lent_window(size_t n, const int32_t *generators, size_t generat
                              uint8_t *group, size_t group_length, int32_t *answers, size_t answers_length,
                              uint64_t *counts, size_t counts_length);
 
+/* Plan: List for an order, and then the cheapest plan that images of the list lead to. A plan has n entries, each from 0
+ * to the upper bound of its cell; its cost is the sum of cost times entry. A step adds the image that keeps the bounds
+ * and lowers the cost most, once; of equals the first by row, by position, and + before -. Slices are lent as above;
+ * other than there are
+ *
+ *   start         exactly n numbers: the starting plan
+ *   upper         exactly n numbers: the upper bound of each cell, 0 to 1,000,000
+ *   costs         exactly n numbers: the cost of each cell, within +-1,000
+ *   budget        the most steps, 0 to 100,000
+ *   plan          written: exactly n numbers
+ *   counts        written: 7 numbers or more
+ *
+ * Returned is
+ *   r >= 0  the number of steps taken. The list and group areas hold what List leaves there, the plan area the plan that
+ *           was reached: within its bounds, and the start plus a vector of the lattice. The counts area holds steps, 1
+ *           or 0, the distance bound, rows, g, k, sums. 1 says that no such plan is cheaper, and the distance bound is
+ *           then 0; 0 says that the budget is spent and that an image is left that lowers the cost: then no such plan is
+ *           cheaper by more than the distance bound. Behind that each area holds zeros.
+ *   r < 0   -(32 * place + number) of a refusal. Every written area holds zeros alone.
+ *
+ * An order meets the refusals of List, and then come these:
+ *    6      budget is not as said here, or the size of start, upper, costs or      0
+ *           plan
+ *   26      an upper bound is not 0 to 1,000,000, or an entry of start is not 0    cell, counted from 0
+ *           to its upper bound
+ *   27      a cost is past +-1,000                                                 cell, counted from 0
+ *    6      the counts area has fewer than 7 numbers, and nothing else is met      0
+ */
+int64_t sukoreta_lent_plan(size_t n, const int32_t *generators, size_t generators_length, const uint8_t *exchanges,
+                           size_t exchanges_length, const int64_t *images, size_t images_length, const int32_t *start,
+                           size_t start_length, const int32_t *upper, size_t upper_length, const int32_t *costs,
+                           size_t costs_length, size_t budget, int32_t *list, size_t list_length, uint8_t *group,
+                           size_t group_length, int32_t *plan, size_t plan_length, uint64_t *counts,
+                           size_t counts_length);
+
 #ifdef __cplusplus
 }
 #endif

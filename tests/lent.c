@@ -1,19 +1,20 @@
 // Makes the lent calls that it is told to on its standard input, and writes what they give, for tests/lent,
-// tests/sessions and tests/windows.
+// tests/sessions, tests/windows and tests/plans.
 //
-// A call comes as a service (one byte: 0 List, 1 Split, 2 Check, 3 List with coefficients, 4 a session, 5 a window), n,
-// of a session both, of a window its width and cell behind n, the length of each slice behind a byte that says how it
-// is lent (below), and the numbers of the slices that are read; n, width, cell and the lengths have eight bytes. Slices
-// come as the parameters stand, but a session's steps before its areas, the counts area as the last, and every number
-// as this machine holds it. A call is made twice, with each slice bordering on pages that may not be touched, first at
-// their ends and then at their starts; areas to be written are full of other bytes before. Written are the result
-// (eight bytes), a byte with the faults below, and these areas. A call that takes more than a minute ends the program.
+// A call comes as a service (one byte: 0 List, 1 Split, 2 Check, 3 List with coefficients, 4 a session, 5 a window, 6 a
+// plan), n, of a session both, of a window its width and cell behind n, of a plan its budget, the length of each slice
+// behind a byte that says how it is lent (below), and the numbers of the slices that are read; n, width, cell, budget
+// and the lengths have eight bytes. Slices come as the parameters stand, but a session's steps before its areas, the
+// counts area as the last, and every number as this machine holds it. A call is made twice, with each slice bordering
+// on pages that may not be touched, first at their ends and then at their starts; areas to be written are full of other
+// bytes before. Written are the result (eight bytes), a byte with the faults below, and these areas. A call that takes
+// more than a minute ends the program.
 #include <string.h>
 
 #include "pages.h"
 #include "sukoreta.h"
 
-enum { LIST, SPLIT, CHECK, LIST_WITH_COEFFICIENTS, SESSION, WINDOW, SERVICES };
+enum { LIST, SPLIT, CHECK, LIST_WITH_COEFFICIENTS, SESSION, WINDOW, PLAN, SERVICES };
 enum { ALONE = 3, SLICES = 10, ROOM = 1 << 20, BORDER = 64 };
 enum { DIFFERENT = 1, BESIDE = 2, CHANGED = 4 };
 // A slice stands between its pages, is a null pointer of length 0, or, for lengths past every room, is zeros that are
@@ -35,6 +36,7 @@ static const struct {
     [LIST_WITH_COEFFICIENTS] = {1, 3, 7, {4, 1, 8, 4, 1, 8, 8}},
     [SESSION] = {2, 7, 10, {4, 1, 8, 4, 1, 8, 1, 4, 1, 8}},
     [WINDOW] = {3, 5, 9, {4, 1, 8, 4, 4, 4, 1, 4, 8}},
+    [PLAN] = {2, 6, 10, {4, 1, 8, 4, 4, 4, 4, 1, 4, 8}},
 };
 
 struct slice {
@@ -71,6 +73,10 @@ static int64_t called(void *const *at) {
         return sukoreta_lent_window(alone[0], SLICE(int32_t, 0), SLICE(uint8_t, 1), SLICE(int64_t, 2),
                                     SLICE(int32_t, 3), alone[1], alone[2], SLICE(int32_t, 4), SLICE(int32_t, 5),
                                     SLICE(uint8_t, 6), SLICE(int32_t, 7), SLICE(uint64_t, 8));
+    if (service == PLAN)
+        return sukoreta_lent_plan(alone[0], SLICE(int32_t, 0), SLICE(uint8_t, 1), SLICE(int64_t, 2), SLICE(int32_t, 3),
+                                  SLICE(int32_t, 4), SLICE(int32_t, 5), alone[1], SLICE(int32_t, 6), SLICE(uint8_t, 7),
+                                  SLICE(int32_t, 8), SLICE(uint64_t, 9));
     return sukoreta_lent_check(alone[0], SLICE(int32_t, 0), SLICE(uint8_t, 1), SLICE(int64_t, 2), SLICE(int32_t, 3),
                                SLICE(int64_t, 4), SLICE(uint8_t, 5), SLICE(uint64_t, 6));
 }

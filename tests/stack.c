@@ -1,7 +1,8 @@
 // Measures the stack that each call takes, on orders that go through every part of it, and holds it to a bound. Each
 // call is made with all moves of a table, and then bare, with a basis of them, which List with coefficients alone
 // refuses; what is printed is the most of both. A session has the same order twice, and must finish both. The records
-// of a window draw images of all rows at all positions, more often than the window is wide.
+// of a window draw images of all rows at all positions, more often than the window is wide. A plan has the greatest
+// budget, and must take a thousand steps or more.
 //
 // A call is made in a thread whose stack was filled before: what is changed afterwards was taken. What the thread takes
 // itself, found by a call that does nothing, is not counted. The last line is 'N passed, M failed'.
@@ -15,12 +16,14 @@
 
 enum { STACK = 1 << 20, BOUND = 400000, FILLED = 0xa5, N = 16, MOVES = 36, BASIS = 9, SENT = 7, STEPS = 1 << 17 };
 enum { WIDTH = 256, RECORDS = 2 * 1152 };
+enum { BUDGET = 100000, EACH = 400, FEWEST = 1000 };
 
 static uint8_t stack[STACK] __attribute__((aligned(4096)));
 static int32_t generators[MOVES * N], list[128 * N], pieces[256], vector[N], rows[128 * N];
 static uint8_t exchanges[SENT * N], group[1152 * N], order[SUKORETA_ORDER_LIMIT], answer[SUKORETA_ANSWER_LIMIT];
 static uint8_t steps[STEPS];
 static int32_t start[N], records[3 * RECORDS], answers[RECORDS * (N + 3)];
+static int32_t plan_start[N], upper[N], costs[N], plan[N];
 static uint64_t counts[10];
 static int64_t images[SENT * BASIS * BASIS], coefficients[128 * MOVES], written[128 * MOVES], result;
 static size_t moves, image_count, order_length, row_count;
@@ -150,6 +153,13 @@ static void *lent_window(void *x) {
     return x;
 }
 
+static void *lent_plan(void *x) {
+    result = sukoreta_lent_plan(N, generators, moves * N, exchanges, SENT * N, images, image_count, plan_start, N,
+                                upper, N, costs, N, BUDGET, list, 128 * N, group, 1152 * N, plan, N, counts, 7);
+    if (result >= 0 && result < FEWEST) result = -1;  // too few steps count as a refusal
+    return x;
+}
+
 static void *call_list(void *x) {
     result = sukoreta_list(order, order_length, answer, sizeof answer);
     return x;
@@ -188,6 +198,15 @@ static void make_run(void) {
     }
 }
 
+// A plan that is far from a cheapest one.
+static void make_plan(void) {
+    for (int j = 0; j < N; j++) {
+        plan_start[j] = EACH;
+        upper[j] = 3 * EACH;
+        costs[j] = 7 * j * j % 23 - 11;
+    }
+}
+
 // An order that every call accepts: the vector is a sum of moves, and the brought list is the one that List finds.
 static void make(bool bare) {
     make_generators(bare);
@@ -200,7 +219,7 @@ static void make(bool bare) {
     if (row_count) make_run();
 }
 
-enum { CALLED = 9 };
+enum { CALLED = 10 };
 
 int main(void) {
     static const struct {
@@ -214,6 +233,7 @@ int main(void) {
                        {"sukoreta_lent_check", lent_check, 2, true},
                        {"sukoreta_lent_session", lent_session, 0, true},
                        {"sukoreta_lent_window", lent_window, 0, true},
+                       {"sukoreta_lent_plan", lent_plan, 0, true},
                        {"sukoreta_list", call_list, 0, true},
                        {"sukoreta_split", call_split, 1, true},
                        {"sukoreta_check", call_check, 2, true}};
@@ -221,6 +241,7 @@ int main(void) {
     int64_t results[CALLED][2];
     int failed = 0;
     make_exchanges();
+    make_plan();
     for (int i = 0; i < STEPS; i++) steps[i] = i % 2;
     for (int bare = 0; bare < 2; bare++) {
         make(bare);

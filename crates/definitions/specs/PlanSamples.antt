@@ -62,9 +62,9 @@ even last = problemOf (+ 1 ∷ + 1 ∷ + 1 ∷ []) (+ 2 ∷ + 2 ∷ + last ∷ [
 abbrev threeList : List ℤ
 threeList = + 1 ∷ + 0 ∷ − 1 ∷ + 1 ∷ − 1 ∷ + 0 ∷ + 0 ∷ + 1 ∷ − 1 ∷ []
 
--- (1,−1), without exchanges and with the exchange of its two cells
-abbrev pair : (exchanges : List ℕ) → Order
-pair exchanges = orderOf 2 (+ 1 ∷ − 1 ∷ []) exchanges []
+-- (1,−1), without exchanges
+abbrev pair : Order
+pair = orderOf 2 (+ 1 ∷ − 1 ∷ []) [] []
 
 unfoldable pub planSamples : List PlanSample
 unfolding line
@@ -80,13 +80,13 @@ planSamples =
     -- P59: .. unless it passes an upper bound
     ∷ line three (even 1) (roomOf 9 3 3) (Cheapest 1 3 1 3 12) threeList (1 ∷ 2 ∷ 3 ∷ []) (+ 0 ∷ + 2 ∷ + 1 ∷ [])
     -- P60: a distance bound past 32 bits
-    ∷ line (pair (2 ∷ 1 ∷ []))
+    ∷ line (orderOf 2 (+ 2 ∷ − 2 ∷ []) (2 ∷ 1 ∷ []) [])
     (problemOf (+ 1_000_000 ∷ + 0 ∷ []) (+ 1_000_000 ∷ + 1_000_000 ∷ []) (+ 1_000 ∷ − 1_000 ∷ []) 1)
     (roomOf 2 4 2)
-    (Spent 1 3_999_996_000 1 2 1 4)
-    (+ 1 ∷ − 1 ∷ [])
+    (Spent 1 7_999_984_000 1 2 1 4)
+    (+ 2 ∷ − 2 ∷ [])
     (1 ∷ 2 ∷ 2 ∷ 1 ∷ [])
-    (+ 999_999 ∷ + 1 ∷ [])
+    (+ 999_998 ∷ + 2 ∷ [])
     -- P61: no generators, and no budget
     ∷ line (orderOf 1 [] [] []) (problemOf (+ 2 ∷ []) (+ 8 ∷ []) (− 1 ∷ []) 0) (roomOf 0 1 1)
     (Cheapest 0 0 1 0 0)
@@ -94,22 +94,22 @@ planSamples =
     (1 ∷ [])
     (+ 2 ∷ [])
     -- P62: a starting entry past its bound, behind a cost past its limit
-    ∷ line (pair []) (problemOf (+ 1 ∷ + 1 ∷ []) (+ 1 ∷ + 0 ∷ []) (+ 1_001 ∷ + 0 ∷ []) 0) (roomOf 2 2 2)
+    ∷ line pair (problemOf (+ 1 ∷ + 1 ∷ []) (+ 1 ∷ + 0 ∷ []) (+ 1_001 ∷ + 0 ∷ []) 0) (roomOf 2 2 2)
     (Refused 26 1) [] [] []
     -- P63: an upper bound past its limit
-    ∷ line (pair []) (problemOf (+ 1 ∷ + 1 ∷ []) (+ 1_000_001 ∷ + 1 ∷ []) (+ 0 ∷ + 0 ∷ []) 0) (roomOf 2 2 2)
+    ∷ line pair (problemOf (+ 1 ∷ + 1 ∷ []) (+ 1_000_001 ∷ + 1 ∷ []) (+ 0 ∷ + 0 ∷ []) 0) (roomOf 2 2 2)
     (Refused 26 0) [] [] []
     -- P64: a cost past its limit
-    ∷ line (pair []) (problemOf (+ 1 ∷ + 1 ∷ []) (+ 1 ∷ + 1 ∷ []) (+ 1_000 ∷ − 1_001 ∷ []) 0) (roomOf 2 2 2)
+    ∷ line pair (problemOf (+ 1 ∷ + 1 ∷ []) (+ 1 ∷ + 1 ∷ []) (+ 1_000 ∷ − 1_001 ∷ []) 0) (roomOf 2 2 2)
     (Refused 27 1) [] [] []
     -- P65: a budget past its limit, and a starting entry below 0
-    ∷ line (pair []) (problemOf (− 1 ∷ + 1 ∷ []) (+ 1 ∷ + 1 ∷ []) (+ 0 ∷ + 0 ∷ []) 100_001) (roomOf 2 2 2)
+    ∷ line pair (problemOf (− 1 ∷ + 1 ∷ []) (+ 1 ∷ + 1 ∷ []) (+ 0 ∷ + 0 ∷ []) 100_001) (roomOf 2 2 2)
     (Refused 6 0) [] [] []
     -- P66: a plan area with a number too many
-    ∷ line (pair []) (problemOf (+ 1 ∷ + 1 ∷ []) (+ 1 ∷ + 1 ∷ []) (+ 0 ∷ + 0 ∷ []) 0) (roomOf 2 2 3)
+    ∷ line pair (problemOf (+ 1 ∷ + 1 ∷ []) (+ 1 ∷ + 1 ∷ []) (+ 0 ∷ + 0 ∷ []) 0) (roomOf 2 2 3)
     (Refused 6 0) [] [] []
     -- P67: no room for a row in the list area, and no costs
-    ∷ line (pair []) (problemOf (+ 1 ∷ + 1 ∷ []) (+ 1 ∷ + 1 ∷ []) [] 0) (roomOf 0 2 2)
+    ∷ line pair (problemOf (+ 1 ∷ + 1 ∷ []) (+ 1 ∷ + 1 ∷ []) [] 0) (roomOf 0 2 2)
     (Refused 13 0) [] [] []
     ∷ []
 

@@ -5,3 +5,4 @@ pub mod Ending
 pub mod Calls
 pub mod Sessions
 pub mod Windows
+pub mod Planning

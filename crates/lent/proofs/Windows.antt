@@ -96,7 +96,7 @@ module _ {order : Order} {chain : Chain} {room : Room} {run : Run} {list : List 
       go (Refused number place) e = subst LowRun e low .1
 
 -- zeros alone in the counts area
-no-counts : {counts : List ℕ} → counts ≡ filled 0 (length counts) [] → CountsZero counts
+pub no-counts : {counts : List ℕ} → counts ≡ filled 0 (length counts) [] → CountsZero counts
 no-counts {counts} e = e ∙ filled-nothing 0 (length counts)
 
 module _ (order : Order) (chain : Chain) (list : List ℤ) (group : List ℕ) (answers : List ℤ) (counts : List ℕ) (result : ℤ) where

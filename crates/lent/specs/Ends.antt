@@ -1,6 +1,6 @@
 -- How a lent call for C ends (Specification 1.1 and 9.4): its result, and its counts in an area. Assumes nothing.
 use mathlib.Core.Path.{_≡_}
-use mathlib.Core.Bool.{Bool}
+use mathlib.Core.Bool.{Bool, true}
 use mathlib.Core.List.{List, [], _∷_, _++_}
 use Prim.Native.Nat.{ℕ, _+_, _<_, _^_}
 use lib.Dec.{leb, ltb}
@@ -11,6 +11,8 @@ use Rattle.definitions.specs.declared.Answer.the-variants.{Moves, Split, Passed
 use Rattle.definitions.specs.declared.Ending.{Ending}
 use Rattle.definitions.specs.declared.Ending.the-variants as ending
 use Rattle.definitions.specs.declared.Fault.the-variants.{At}
+use Rattle.definitions.specs.declared.Planned.{Planned}
+use Rattle.definitions.specs.declared.Planned.the-variants as planned
 use Rattle.definitions.specs.declared.Run.{Run}
 use Rattle.definitions.specs.declared.Run.the-variants as run
 use Rattle.definitions.specs.declared.Session.{Session}
@@ -21,6 +23,7 @@ use Rattle.definitions.specs.Calls.{ListEnd, CertifiedEnd, SplitEnd, CheckEnd, 
 use Rattle.definitions.specs.Calls.{certifiedCall, certifiedEnd}
 use Rattle.definitions.specs.Calls.{checkCall, checkEnd}
 use Rattle.definitions.specs.Window.{Chain, Room, WindowEnd, windowCall, windowRefused}
+use Rattle.definitions.specs.Plan.{PlanEnd, PlanRoom, Problem, planCall, planRefused}
 use Rattle.answers.specs.Refusal.{placeFactor, refusalCode, refusalOf}
 
 -- 1.1: the counts of an answer; a refusal has none
@@ -141,3 +144,42 @@ unfoldable pub lentWindow : Order → Chain → Room → (countsSize : ℕ) → 
 lentWindow order chain room countsSize =
     let end = windowCall order chain room in
     if isTold (end .answer) countsSize then end else windowRefused room 6 0 []
+
+-- ---- Plan
+
+-- 3.10: the counts of a plan, with 1 for a cheapest one, and its distance bound; a refusal has none
+abbrev pub planCounts : Planned → List ℕ
+planCounts (planned.Cheapest steps rows members stored sums) =
+    steps ∷ 1 ∷ 0 ∷ rows ∷ members ∷ stored ∷ sums ∷ []
+planCounts (planned.Spent steps bound rows members stored sums) =
+    steps ∷ 0 ∷ bound ∷ rows ∷ members ∷ stored ∷ sums ∷ []
+planCounts (planned.Refused number place) = []
+
+-- its result: the number of its steps, or its refusal
+abbrev pub planResult : Planned → ℤ
+planResult (planned.Cheapest steps rows members stored sums) = pos steps
+planResult (planned.Spent steps bound rows members stored sums) = pos steps
+planResult (planned.Refused number place) = refusalOf number place
+
+-- it can be returned as a signed number of 64 bits
+abbrev pub PlanSmall : Planned → Type 0
+PlanSmall (planned.Cheapest steps rows members stored sums) = steps < 2 ^ 63
+PlanSmall (planned.Spent steps bound rows members stored sums) = steps < 2 ^ 63
+PlanSmall (planned.Refused number place) = refusalCode number place < 2 ^ 63
+
+-- it can be told with a counts area of `size` numbers: there is room for its counts, or it is a refusal
+abbrev pub isPlanTold : Planned → (size : ℕ) → Bool
+isPlanTold (planned.Cheapest steps rows members stored sums) size = leb 7 size
+isPlanTold (planned.Spent steps bound rows members stored sums) size = leb 7 size
+isPlanTold (planned.Refused number place) size = true
+
+-- the plan is reported: its result, and its counts in an area, with zeros behind them
+pub record PlanReports (answer : Planned) (size : ℕ) (result : ℤ) (counts : List ℕ) : Type 0 where
+  pub results : result ≡ planResult answer
+  pub countsHold : counts ≡ filled 0 size (planCounts answer)
+
+-- the call ends as that without counts does, or with 6 at 0 where that cannot be told
+unfoldable pub lentPlan : Order → Problem → PlanRoom → (countsSize : ℕ) → PlanEnd
+lentPlan order problem room countsSize =
+    let end = planCall order problem room in
+    if isPlanTold (end .answer) countsSize then end else planRefused room 6 0

@@ -5,10 +5,11 @@ use mathlib.Core.Logic.{_↔_}
 use mathlib.Core.List.{List}
 use Prim.Native.Nat.{ℕ, _/_, _≤_, _<_}
 use lib.IntN.{ℤ, pos, negsuc}
-use lib.ListN.{length, replicate}
+use lib.ListN.{length, getD, replicate}
 use denote.Ref.{now}
 use Rattle.definitions.specs.declared.Answer.{Answer}
 use Rattle.definitions.specs.declared.Answer.the-variants.{Passed}
+use Rattle.definitions.specs.declared.Planned.{Planned}
 use Rattle.definitions.specs.declared.Run.{Run}
 use Rattle.definitions.specs.declared.Session.{Session}
 use Rattle.definitions.specs.Vector.{padded}
@@ -16,16 +17,19 @@ use Rattle.definitions.specs.Lattice.{InLattice}
 use Rattle.definitions.specs.Lent.{Order, exchangesOf, filled, generatorsOf, vectorsOf}
 use Rattle.definitions.specs.Calls.{ListEnd, CertifiedEnd, SplitEnd, CheckEnd}
 use Rattle.definitions.specs.Window.{Chain, Room, WindowEnd}
+use Rattle.definitions.specs.Plan.{PlanEnd, PlanRoom, Problem}
 use Rattle.definitions.specs.Demands.{RulesKept, Whole}
 use Rattle.vectors.specs.Areas.{Lent, sentOrder}
 use Rattle.moves.specs.Promise.{CheckPassed, ListAccepted, ListZero, PastEntries, SplitAccepted, SplitZero}
 use Rattle.certified_lists.specs.Promise.{CertifiedAccepted, CertifiedZero}
 use Rattle.sessions.specs.Promise.{SessionPromise}
 use Rattle.windows.specs.Promise.{RecordRefused, WindowAccepted, WindowZero}
+use Rattle.plans.specs.Promise.{BudgetSpent, CheapestReached, PlanZero}
 use Rattle.answers.specs.Refusal.{refusalOf}
 use Rattle.lent.specs.Ends.{countsOf, lentCertified, lentCheck, lentList, lentSplit, resultOf}
 use Rattle.lent.specs.Ends.{finishedOf, sessionCounts, sessionSize}
 use Rattle.lent.specs.Ends.{lentWindow, runCounts, runResult}
+use Rattle.lent.specs.Ends.{lentPlan, planCounts, planResult}
 
 -- an answer was returned, and its counts stand in their area
 pub record Returned (answer : Answer) (result : ℤ) (counts : List ℕ) : Type 0 where
@@ -233,3 +237,50 @@ abbrev pub KeepsLentWindow : Order → Chain → (list : Lent ℤ) (group : Lent
     (result : ℤ) → Type 0
 KeepsLentWindow order chain list group answers counts result =
     WindowLent order chain result (now (list .exit)) (now (group .exit)) (now (answers .exit)) (now (counts .exit))
+
+-- ---- Plan
+
+-- a plan was returned, and its counts stand in their area
+pub record PlanReturned (answer : Planned) (result : ℤ) (counts : List ℕ) : Type 0 where
+  pub results : result ≡ planResult answer
+  pub countsHold : counts ≡ filled 0 (length counts) (planCounts answer)
+
+-- the end that is due
+abbrev pub planDue : Order → Problem → (list : List ℤ) (group : List ℕ) (plan : List ℤ) (counts : List ℕ) → PlanEnd
+planDue order problem list group plan counts =
+    let room : PlanRoom = record { list = length list; group = length group; plan = length plan } in
+    lentPlan order problem room (length counts)
+
+-- the second count is 1: what `PlanPromise` says of a cheapest plan
+pub record CheapestGiven (order : Order) (problem : Problem) (result : ℤ) (list : List ℤ) (group : List ℕ)
+    (plan : List ℤ) (counts : List ℕ) : Type 0 where
+  pub answer : Planned
+  pub kept : CheapestReached order problem answer list group plan
+  pub returned : PlanReturned answer result counts
+
+-- the second count is 0: what `PlanPromise` says of a plan where the budget is spent
+pub record SpentGiven (order : Order) (problem : Problem) (result : ℤ) (list : List ℤ) (group : List ℕ)
+    (plan : List ℤ) (counts : List ℕ) : Type 0 where
+  pub answer : Planned
+  pub kept : BudgetSpent order problem answer list group plan
+  pub returned : PlanReturned answer result counts
+
+-- sukoreta_lent_plan: the result and the areas by the definition; and what a reader may conclude from the result and
+-- the second count
+pub record PlanLent (order : Order) (problem : Problem) (result : ℤ) (list : List ℤ) (group : List ℕ)
+    (plan : List ℤ) (counts : List ℕ) : Type 0 where
+  pub returned : PlanReturned (planDue order problem list group plan counts .answer) result counts
+  pub listHolds : list ≡ planDue order problem list group plan counts .list
+  pub groupHolds : group ≡ planDue order problem list group plan counts .group
+  pub planHolds : plan ≡ planDue order problem list group plan counts .plan
+  pub cheapest : (k : ℕ) → result ≡ pos k → getD counts 1 0 ≡ 1
+      → CheapestGiven order problem result list group plan counts
+  pub spent : (k : ℕ) → result ≡ pos k → getD counts 1 0 ≡ 0
+      → SpentGiven order problem result list group plan counts
+  pub refused : (k : ℕ) → result ≡ negsuc k → PlanZero list group plan × CountsZero counts
+
+-- .. of the order and the problem that are sent, in the areas that are lent
+abbrev pub KeepsLentPlan : Order → Problem → (list : Lent ℤ) (group : Lent ℕ) (plan : Lent ℤ) (counts : Lent ℕ)
+    (result : ℤ) → Type 0
+KeepsLentPlan order problem list group plan counts result =
+    PlanLent order problem result (now (list .exit)) (now (group .exit)) (now (plan .exit)) (now (counts .exit))

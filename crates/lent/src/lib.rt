@@ -7,16 +7,19 @@ ghost use lib.ListN.{length, getD, take};
 ghost use Rattle.definitions.specs.Lent.{filled};
 ghost use Rattle.vectors.specs.Areas.{sentOrder};
 ghost use Rattle.windows.specs.Promise.{sentChain};
+ghost use Rattle.costs.specs.Problems.{problemIn};
 ghost use Rattle.lent.specs.Ends.{Gives, Reports, Small};
 ghost use Rattle.lent.specs.Ends.{endingCounts, finishedIn, finishedOf, sessionCounts, sessionSize};
 ghost use Rattle.lent.specs.Promise.{KeepsLentCertified, KeepsLentCheck, KeepsLentList, KeepsLentSplit};
 ghost use Rattle.lent.specs.Ends.{RunReports, RunSmall, isTold};
-ghost use Rattle.lent.specs.Promise.{KeepsLentSession, KeepsLentWindow};
+ghost use Rattle.lent.specs.Ends.{PlanReports, PlanSmall, isPlanTold};
+ghost use Rattle.lent.specs.Promise.{KeepsLentPlan, KeepsLentSession, KeepsLentWindow};
 use answers::refusal;
 use certified_lists::list_with_coefficients;
 use coefficients::clear_coefficients;
 use definitions::Answer;
 use definitions::Ending;
+use definitions::Planned;
 use definitions::Run;
 use definitions::Session;
 use sessions::session;
@@ -29,6 +32,9 @@ const SESSION_COUNTS: usize = 10;
 
 // The counts of a run.
 const RUN_COUNTS: usize = 5;
+
+// The counts of a plan.
+const PLAN_COUNTS: usize = 7;
 
 // The first place of a refusal for which a result has no room (Specification 9.4).
 const PLACE_LIMIT: u64 = 288_230_376_151_711_744;
@@ -423,6 +429,118 @@ pub extern "C" fn sukoreta_lent_window(
     clear(list, 0);
     clear_bytes(group, 0);
     clear(answers, 0);
+    report(
+        counts,
+        Answer::Refused {
+            number: 6,
+            place: 0,
+        },
+    )
+}
+
+// Whether an answer can be told: there is room for its counts, or it is a refusal.
+fn is_plan_told(answer: Planned, size: usize) -> bool
+    ensures told { λ r. ⌜ r ≡ isPlanTold answer size ⌝ }
+{
+    match answer {
+        Planned::Cheapest {
+            steps,
+            rows,
+            members,
+            stored,
+            sums,
+        } => PLAN_COUNTS <= size,
+        Planned::Spent {
+            steps,
+            bound,
+            rows,
+            members,
+            stored,
+            sums,
+        } => PLAN_COUNTS <= size,
+        Planned::Refused { number, place } => true,
+    }
+}
+
+// The result of an answer that can be told, and its counts in their area.
+fn report_plan(area: &mut [u64], answer: Planned) -> i64
+    requires told { ⌜ isPlanTold answer (length (now area)) ≡ true ⌝ }
+    requires small { ⌜ PlanSmall answer ⌝ }
+    ensures reported { λ r. ⌜ PlanReports answer (length (now (area .entry))) r (now (area .exit)) ⌝ }
+{
+    match answer {
+        Planned::Cheapest {
+            steps,
+            rows,
+            members,
+            stored,
+            sums,
+        } => {
+            let numbers = [steps, 1, 0, rows, members, stored, sums];
+            lay_counts(area, &numbers, PLAN_COUNTS);
+            steps as i64
+        }
+        Planned::Spent {
+            steps,
+            bound,
+            rows,
+            members,
+            stored,
+            sums,
+        } => {
+            let numbers = [steps, 0, bound, rows, members, stored, sums];
+            lay_counts(area, &numbers, PLAN_COUNTS);
+            steps as i64
+        }
+        Planned::Refused { number, place } => {
+            let none = [0u64; 1];
+            lay_counts(area, &none, 0);
+            refusal(number, place)
+        }
+    }
+}
+
+// The best plan within a budget on lent areas, for C (Specification 1.1 and 3.10): the number of steps, or a refusal as
+// one number; steps, 1 for a cheapest plan, the distance bound, and the counts of its list, in the counts area.
+#[no_mangle]
+pub extern "C" fn sukoreta_lent_plan(
+    n: usize,
+    generators: &[i32],
+    exchanges: &[u8],
+    images: &[i64],
+    start: &[i32],
+    upper: &[i32],
+    costs: &[i32],
+    budget: usize,
+    list: &mut [i32],
+    group: &mut [u8],
+    plan: &mut [i32],
+    counts: &mut [u64],
+) -> i64
+    ensures kept { λ r. ⌜
+        (let order = sentOrder n generators exchanges images in
+        KeepsLentPlan order (problemIn start upper costs budget) list group plan counts r)
+        ⌝ }
+{
+    let answer = plans::plan(
+        n,
+        generators,
+        exchanges,
+        images,
+        start,
+        upper,
+        costs,
+        budget,
+        &mut *list,
+        &mut *group,
+        &mut *plan,
+    );
+    if is_plan_told(answer, counts.len()) {
+        return report_plan(counts, answer);
+    }
+    clear(list, 0);
+    clear_bytes(group, 0);
+    clear(plan, 0);
     report(
         counts,
         Answer::Refused {

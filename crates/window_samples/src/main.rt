@@ -6,20 +6,14 @@
 ghost use Prim.Native.Nat.{_≤_};
 ghost use lib.ListN.{length};
 ghost use Rattle.definitions.specs.Limits.{cells};
-use answers::put_head;
-use answers::put_rows;
-use answers::put_text;
 use definitions::Run;
 use definitions::limits::CONTINGENCY_LIMIT;
 use definitions::limits::FIGURES_WIDTH;
 use definitions::limits::WINDOW_LIMIT;
+use sample_texts::show_area;
+use sample_texts::show_group;
+use sample_texts::show_head;
 use windows::window;
-
-// Room for any text that is printed at once.
-const TEXT: usize = 512;
-
-// The most numbers of a group area of these samples.
-const GROUP: usize = 6;
 
 // The generator of all but P46.
 const PAIR: [i32; 2] = [1, -1];
@@ -28,16 +22,6 @@ const PAIR: [i32; 2] = [1, -1];
 const NO_IMAGES: [i64; 0] = [];
 
 // ---- printing
-
-// Prints a word and counts behind it. The test is always met; if it were not, the missing text would show against
-// `stdout`.
-fn show_head(word: &[u8], counts: &[u64]) {
-    let mut text = [0u8; TEXT];
-    let end = put_head(&mut text, 0, word, counts);
-    if end <= TEXT {
-        io::write_all(1, &text[..end]);
-    }
-}
 
 // Prints an answer.
 fn show_run(run: Run) {
@@ -59,35 +43,6 @@ fn show_run(run: Run) {
             show_head(b"REFUSED", &counts);
         }
     }
-}
-
-// Prints a word, the rows of an area, a line of `width` numbers for each, and END. The test is always met.
-fn show_area(word: &[u8], numbers: &[i32], width: usize)
-    requires some { ⌜ 1 ≤ width ⌝ }
-{
-    let mut text = [0u8; TEXT];
-    let none = [0u64; 0];
-    let count = numbers.len() / width;
-    let head = put_head(&mut text, 0, word, &none);
-    let rows = put_rows(&mut text, head, numbers, width, count);
-    let end = put_text(&mut text, rows, b"END\n");
-    if end <= TEXT {
-        io::write_all(1, &text[..end]);
-    }
-}
-
-// Prints the numbers of a group area.
-fn show_group(group: &[u8])
-    requires few { ⌜ length (now group) ≤ 6 ⌝ }
-{
-    let mut counts = [0u64; GROUP];
-    let end = group.len();
-    let mut i = 0;
-    while i < end {
-        counts[i] = group[i] as u64;
-        i += 1;
-    }
-    show_head(b"GROUP", &counts[..end]);
 }
 
 // ---- calls

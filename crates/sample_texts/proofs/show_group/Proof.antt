@@ -5,8 +5,8 @@ use native.Mathlib.Omega.{arith}
 use lib.ListN.{length}
 use lib.Seq.{length-take-le}
 use borrow.Author.Needs.{needs}
-use Rattle.window_samples.proofs.show_group.Statement.{statement}
-use Rattle.window_samples.proofs.show_group.Tie as tie
+use Rattle.sample_texts.proofs.show_group.Statement.{statement}
+use Rattle.sample_texts.proofs.show_group.Tie as tie
 
 abbrev Inv-loop : tie.InvT-loop
 Inv-loop group counts₀ end i₀ t5 counts i = (i ≤ end) × (length counts ≡ 6)

@@ -3,8 +3,8 @@ use mathlib.Core.Path.{sym}
 use native.Mathlib.Nat.{div-mul-le-self}
 use lib.Seq.{length-take-le}
 use borrow.Author.Needs.{needs}
-use Rattle.window_samples.proofs.show_area.Statement.{statement}
-use Rattle.window_samples.proofs.show_area.Tie as tie
+use Rattle.sample_texts.proofs.show_area.Statement.{statement}
+use Rattle.sample_texts.proofs.show_area.Tie as tie
 
 div-count : tie.Need-div-count
 div-count c = search needs

@@ -2,8 +2,8 @@
 use mathlib.Core.Path.{sym}
 use lib.Seq.{length-take-le}
 use borrow.Author.Needs.{needs}
-use Rattle.window_samples.proofs.show_head.Statement.{statement}
-use Rattle.window_samples.proofs.show_head.Tie as tie
+use Rattle.sample_texts.proofs.show_head.Statement.{statement}
+use Rattle.sample_texts.proofs.show_head.Tie as tie
 
 slice-aggregate-put-head : tie.Need-slice-aggregate-put-head
 slice-aggregate-put-head c = search needs
