@@ -1,7 +1,7 @@
 // The lent calls (Specification 1.1): List, Split and Check.
 ghost use mathlib.Core.Path.{_≡_};
 ghost use mathlib.Core.List.{[], _∷_};
-ghost use Prim.Native.Nat.{_≤_};
+ghost use Prim.Native.Nat.{_*_, _≤_};
 ghost use lib.ListN.{length};
 ghost use Rattle.definitions.specs.Limits.{groupLimit, listLimit};
 ghost use Rattle.definitions.specs.Refusals.{cellsFault, firstFault, refused, splitSizeFault};
@@ -65,14 +65,21 @@ enum Checked {
 
 // ---- List
 
-// Steps 1 to 5 with the table of a group in its area (Specification 3).
-fn complete_list(generators: &[i32], list: &mut [i32], group: &[u8], shape: Shape) -> Listed
+// Steps 1 to 5 with the table of a group in its area (Specification 3), with marks for all images of all list rows, and
+// keys.
+fn complete_list(
+    generators: &[i32],
+    list: &mut [i32],
+    group: &[u8],
+    shape: Shape,
+    marks: &mut [u8],
+    keys: &mut [u64],
+) -> Listed
     requires grouped { ⌜ Grouped shape (now generators) (now group) ⌝ }
+    requires room { ⌜ listLimit * groupLimit ≤ length (now marks) ⌝ }
     ensures found { λ r. ⌜ Completes shape generators list group r ⌝ }
 {
     clear(&mut *list, 0);
-    let mut marks = [0u8; MARKS];
-    let mut keys = [0u64; KEYS];
     let limit = rows_up_to(LIST_LIMIT, shape.n, list.len());
     let sizes = Sizes { shape, limit };
     let mut none = [0i64; 0];
@@ -81,8 +88,8 @@ fn complete_list(generators: &[i32], list: &mut [i32], group: &[u8], shape: Shap
         &mut *list,
         group,
         sizes,
-        &mut marks,
-        &mut keys,
+        &mut *marks,
+        &mut *keys,
         &generators[..0],
         &mut none,
     );
@@ -92,7 +99,7 @@ fn complete_list(generators: &[i32], list: &mut [i32], group: &[u8], shape: Shap
             let stored = s.stored;
             let mut flags = [0u8; LIST_LIMIT];
             let extent = Extent { shape, k: stored };
-            let rows = sorting::finish(&mut *list, group, extent, &marks, &keys, &mut flags);
+            let rows = sorting::finish(&mut *list, group, extent, &*marks, &*keys, &mut flags);
             Listed::Found {
                 rows: rows as u64,
                 members: shape.g as u64,
@@ -103,7 +110,36 @@ fn complete_list(generators: &[i32], list: &mut [i32], group: &[u8], shape: Shap
     }
 }
 
-// 5 to 13 and 23, and the areas of an accepted List (Specification 7.1).
+// 5 to 13 and 23, and the areas of an accepted List, with marks and keys that the caller lends (Specification 7.1).
+pub fn make_list_with(
+    n: usize,
+    generators: &[i32],
+    exchanges: &[u8],
+    images: &[i64],
+    list: &mut [i32],
+    group: &mut [u8],
+    marks: &mut [u8],
+    keys: &mut [u64],
+) -> Listed
+    requires room { ⌜ listLimit * groupLimit ≤ length (now marks) ⌝ }
+    ensures found { λ r. ⌜ FindsIn n (listing (sentOrder n generators exchanges images)) list group r ⌝ }
+{
+    let fits = refusals::whole_rows(n, list.len());
+    let admission = admit(n, generators, exchanges, images, fits, &mut *group);
+    match admission {
+        Admission::Refused { number, place } => Listed::Refused { number, place },
+        Admission::Members(g) => complete_list(
+            generators,
+            &mut *list,
+            &*group,
+            Shape { n, g },
+            &mut *marks,
+            &mut *keys,
+        ),
+    }
+}
+
+// The same, with marks and keys of its own.
 pub fn make_list(
     n: usize,
     generators: &[i32],
@@ -114,12 +150,18 @@ pub fn make_list(
 ) -> Listed
     ensures found { λ r. ⌜ FindsIn n (listing (sentOrder n generators exchanges images)) list group r ⌝ }
 {
-    let fits = refusals::whole_rows(n, list.len());
-    let admission = admit(n, generators, exchanges, images, fits, &mut *group);
-    match admission {
-        Admission::Refused { number, place } => Listed::Refused { number, place },
-        Admission::Members(g) => complete_list(generators, &mut *list, &*group, Shape { n, g }),
-    }
+    let mut marks = [0u8; MARKS];
+    let mut keys = [0u64; KEYS];
+    make_list_with(
+        n,
+        generators,
+        exchanges,
+        images,
+        &mut *list,
+        &mut *group,
+        &mut marks,
+        &mut keys,
+    )
 }
 
 // List: one vector of each kind of the Graver basis in the list area, sorted, and the table of the group in the group

@@ -1,7 +1,8 @@
 // The best plan within a budget (Specification 3.10): the whole List, and then best steps by its images.
 ghost use mathlib.Core.Path.{_≡_};
-ghost use Prim.Native.Nat.{_≤_};
-ghost use Rattle.definitions.specs.Limits.{budgetLimit};
+ghost use Prim.Native.Nat.{_*_, _≤_};
+ghost use lib.ListN.{length};
+ghost use Rattle.definitions.specs.Limits.{budgetLimit, groupLimit, listLimit};
 ghost use Rattle.definitions.specs.Plan.{planRefused};
 ghost use Rattle.vectors.specs.Areas.{sentOrder};
 ghost use Rattle.moves.specs.Found.{Held};
@@ -22,7 +23,7 @@ use descents::price_images;
 use moves::KEYS;
 use moves::MARKS;
 use moves::Numbers;
-use moves::make_list;
+use moves::make_list_with;
 use reduction::Extent;
 use reduction::Shape;
 use vectors::clear;
@@ -43,7 +44,7 @@ fn refuse(number: u64, place: u64, list: &mut [i32], group: &mut [u8], plan: &mu
     Planned::Refused { number, place }
 }
 
-// The descent by the list and the table in their areas, with the marks and the prices of the images.
+// The descent by the list and the table in their areas, with the prices of the images; marks and keys are set anew.
 fn improve(
     start: [i32; CELLS],
     terms: Terms,
@@ -51,19 +52,20 @@ fn improve(
     list: &[i32],
     group: &[u8],
     extent: Extent,
+    marks: &mut [u8],
+    keys: &mut [u64],
 ) -> Descent
     requires listed { ⌜ Listed extent (now list) (now group) ⌝ }
     requires planning { ⌜ Planning terms start ⌝ }
     requires few { ⌜ budget ≤ budgetLimit ⌝ }
+    requires room { ⌜ listLimit * groupLimit ≤ length (now marks) ⌝ }
     ensures descended { λ r. ⌜ DescendsTo terms extent (now (group .entry)) (now (list .entry)) budget start r ⌝ }
 {
-    let mut marks = [0u8; MARKS];
-    let mut keys = [0u64; KEYS];
     let mut prices = [0i64; PRICES];
-    mark_rows(list, group, extent, &mut marks, &mut keys);
+    mark_rows(list, group, extent, &mut *marks, &mut *keys);
     let costs = terms.costs;
-    price_images(costs, list, group, extent, &marks, &mut prices);
-    descend(start, terms, budget, list, group, extent, &marks, &prices)
+    price_images(costs, list, group, extent, &*marks, &mut prices);
+    descend(start, terms, budget, list, group, extent, &*marks, &prices)
 }
 
 // What is answered where a descent has ended: that its plan is a cheapest one, or the distance bound.
@@ -105,8 +107,11 @@ fn descend_listed(
     group: &mut [u8],
     plan: &mut [i32],
     found: Numbers,
+    marks: &mut [u8],
+    keys: &mut [u64],
 ) -> Planned
     requires held { ⌜ Held n found (now list) (now group) ⌝ }
+    requires room { ⌜ listLimit * groupLimit ≤ length (now marks) ⌝ }
     requires fitting { ⌜ Fitting n (now start) (now upper) (now costs) budget (now plan) ⌝ }
     ensures ended { λ r. ⌜
         PlanEndsIn (descended n found (problemIn start upper costs budget) list group) list group plan r
@@ -120,7 +125,16 @@ fn descend_listed(
     let costs = load(costs, 0, n);
     let terms = Terms { upper, costs };
     let first = load(start, 0, n);
-    let end = improve(first, terms, budget, &*list, &*group, extent);
+    let end = improve(
+        first,
+        terms,
+        budget,
+        &*list,
+        &*group,
+        extent,
+        &mut *marks,
+        &mut *keys,
+    );
     let reached = end.plan;
     store(&mut *plan, 0, n, reached);
     conclude(end, terms, found)
@@ -137,8 +151,11 @@ fn test_listed(
     group: &mut [u8],
     plan: &mut [i32],
     found: Numbers,
+    marks: &mut [u8],
+    keys: &mut [u64],
 ) -> Planned
     requires held { ⌜ Held n found (now list) (now group) ⌝ }
+    requires room { ⌜ listLimit * groupLimit ≤ length (now marks) ⌝ }
     ensures ended { λ r. ⌜
         PlanEndsIn (tested n found (problemIn start upper costs budget) list group) list group plan r
         ⌝ }
@@ -156,6 +173,8 @@ fn test_listed(
             &mut *group,
             &mut *plan,
             found,
+            &mut *marks,
+            &mut *keys,
         ),
     }
 }
@@ -181,7 +200,18 @@ pub fn plan(
         KeepsPlan order (problemIn start upper costs budget) list group plan r)
         ⌝ }
 {
-    let found = make_list(n, generators, exchanges, images, &mut *list, &mut *group);
+    let mut marks = [0u8; MARKS];
+    let mut keys = [0u64; KEYS];
+    let found = make_list_with(
+        n,
+        generators,
+        exchanges,
+        images,
+        &mut *list,
+        &mut *group,
+        &mut marks,
+        &mut keys,
+    );
     match found {
         moves::Listed::Refused { number, place } => {
             refuse(number, place, &mut *list, &mut *group, &mut *plan)
@@ -208,6 +238,8 @@ pub fn plan(
                 &mut *group,
                 &mut *plan,
                 numbers,
+                &mut marks,
+                &mut keys,
             )
         }
     }

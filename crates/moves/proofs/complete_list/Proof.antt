@@ -19,7 +19,7 @@ use Rattle.moves.proofs.complete_list.Tie as tie
 -- the cleared list area, and its rows
 module _ (c : tie.After-rows-up-to) where
   abbrev start : tie.Start
-  start = c .before .before .before .before .before
+  start = c .before .before .before .before .before .before .before
 
   abbrev size : ℕ
   size = length (start .args .list .now)
@@ -63,20 +63,14 @@ slice-aggregate-complete c = search needs
 slice-aggregate-complete-2 : tie.Need-slice-aggregate-complete-2
 slice-aggregate-complete-2 c = search needs
 
-slice-aggregate-complete-3 : tie.Need-slice-aggregate-complete-3
-slice-aggregate-complete-3 c = search needs
-
-slice-aggregate-complete-4 : tie.Need-slice-aggregate-complete-4
-slice-aggregate-complete-4 c = search needs
-
 complete-requires : tie.Need-complete-requires
 complete-requires c κs =
     let u = c .before .before .before .before .before in
     let s = start u in (
-      cleared-areas (s .pre) (size u) (u .rows-up-to .result) (limit-is u) (cleared u) (omega arith),
+      cleared-areas (s .pre .0) (size u) (u .rows-up-to .result) (limit-is u) (cleared u) (s .pre .1),
       (
-        s .pre .admissible,
-        (λ h. absurd (omega (arith, h)), nothing-notable (s .pre .table) (u .rows-up-to .result) _ _ refl),
+        s .pre .0 .admissible,
+        (λ h. absurd (omega (arith, h)), nothing-notable (s .pre .0 .table) (u .rows-up-to .result) _ _ refl),
       ),
     )
 
@@ -89,45 +83,51 @@ enum-known-c-2 c = search needs
 slice-aggregate-finish : tie.Need-slice-aggregate-finish
 slice-aggregate-finish c = search needs
 
-slice-aggregate-finish-2 : tie.Need-slice-aggregate-finish-2
-slice-aggregate-finish-2 c = search needs
-
-slice-aggregate-finish-3 : tie.Need-slice-aggregate-finish-3
-slice-aggregate-finish-3 c = search needs
-
 finish-requires : tie.Need-finish-requires
 finish-requires c κs =
     let k = c .before .before .before .before .before in
-    let m = k .before .before .before .before .before .before in
+    let m = k .before .before .before .before .before .before .before .before in
     let u = m .before .before .before .before .before .before in
     let s = start u in
     let A = after-is (completes m) (k .c2 .given .1) in
     let limit = u .rows-up-to .result in (
-      stored-marked (s .pre) (size u) limit (limit-is u) (k .c2 .given .0 .0) A (kept m) (omega (arith, m .complete .kept .1 .1 .1 .1 .0)),
-      omega (arith, stored-few (s .pre) (size u) limit (limit-is u) (k .c2 .given .0 .0) A (kept m), few (s .pre) (size u) limit (limit-is u)),
+      stored-marked (s .pre .0) (size u) limit (limit-is u) (k .c2 .given .0 .0) A (kept m) (omega (arith, m .complete .kept .1 .1 .1 .1 .0, s .pre .1)),
+      omega (arith, stored-few (s .pre .0) (size u) limit (limit-is u) (k .c2 .given .0 .0) A (kept m), few (s .pre .0) (size u) limit (limit-is u)),
     )
 
 same-length : tie.Need-same-length
 same-length c = search needs
 
-returns : tie.Need-returns
-returns c =
-    let m = c .before .before .before .before .before .before .before in
-    let u = m .before .before .before .before .before .before in
-    steps-stopped (start u .pre) (size u) (u .rows-up-to .result) (limit-is u) _ _ (after-is (completes m) (c .before .c .given .1))
-
 same-length-2 : tie.Need-same-length-2
 same-length-2 c = search needs
+
+same-length-3 : tie.Need-same-length-3
+same-length-3 c = search needs
+
+returns : tie.Need-returns
+returns c =
+    let m = c .before .before .before .before .before .before .before .before .before in
+    let u = m .before .before .before .before .before .before in
+    steps-stopped (start u .pre .0) (size u) (u .rows-up-to .result) (limit-is u) _ _ (after-is (completes m) (c .before .c .given .1))
+
+same-length-4 : tie.Need-same-length-4
+same-length-4 c = search needs
+
+same-length-5 : tie.Need-same-length-5
+same-length-5 c = search needs
+
+same-length-6 : tie.Need-same-length-6
+same-length-6 c = search needs
 
 returns-2 : tie.Need-returns-2
 returns-2 c =
     let f = c .before .before in
     let k = f .before .before .before .before .before .before in
-    let m = k .before .before .before .before .before .before in
+    let m = k .before .before .before .before .before .before .before .before in
     let u = m .before .before .before .before .before .before in
     let s = start u in
     let A = after-is (completes m) (k .c2 .given .1) in
-    steps-ended (s .pre) (size u) (u .rows-up-to .result) (limit-is u) (k .c2 .given .0 .0) A (kept m) (f .finish .result) (f .finish .ensures)
+    steps-ended (s .pre .0) (size u) (u .rows-up-to .result) (limit-is u) (k .c2 .given .0 .0) A (kept m) (f .finish .result) (f .finish .ensures)
 
 pub complete-list-spec : {M : Type 1} → statement M
 complete-list-spec =
@@ -137,16 +137,16 @@ complete-list-spec =
     rows-up-to-requires
     slice-aggregate-complete
     slice-aggregate-complete-2
-    slice-aggregate-complete-3
-    slice-aggregate-complete-4
     complete-requires
     enum-known-c
     enum-known-c-2
     slice-aggregate-finish
-    slice-aggregate-finish-2
-    slice-aggregate-finish-3
     finish-requires
     same-length
-    returns
     same-length-2
+    same-length-3
+    returns
+    same-length-4
+    same-length-5
+    same-length-6
     returns-2)

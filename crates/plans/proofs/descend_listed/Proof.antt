@@ -29,7 +29,7 @@ module _ (s : tie.Start) where
 
   -- 6, 26 and 27 are not met
   sound : Sound (s .args .n) problem (length (s .args .plan .now))
-  sound = problem-sound (s .args .n) problem (length (s .args .plan .now)) (s .pre .1)
+  sound = problem-sound (s .args .n) problem (length (s .args .plan .now)) (s .pre .1 .1)
 
   narrow : s .args .n ≤ cells
   narrow = s .pre .0 .table .narrow
@@ -40,7 +40,7 @@ module _ (s : tie.Start) where
 -- the three vectors, as they were read
 module _ (l : tie.After-load3) where
   abbrev begun : tie.Start
-  begun = l .before .before .before .before
+  begun = l .before .before .before .before .before .before
 
   abbrev read : Terms
   read = record { upper = l .before .before .load .result; costs = l .before .load2 .result }
@@ -58,7 +58,7 @@ module _ (l : tie.After-load3) where
 -- the descent from them
 module _ (d : tie.After-improve) where
   abbrev loads : tie.After-load3
-  loads = d .before .before .before
+  loads = d .before .before .before .before .before
 
   abbrev extent : Extent
   extent = record { shape = record { n = begun loads .args .n; g = begun loads .args .found .members }; k = begun loads .args .found .rows }
@@ -71,28 +71,28 @@ module _ (d : tie.After-improve) where
       (subst (λ (v : Vector). DescendsTo (read loads) extent (a .group .now) (a .list .now) (a .budget) v (d .improve .result)) (first-is loads) (d .improve .ensures))
 
 load-requires : tie.Need-load-requires
-load-requires c κs = let s = c .before in (narrow s, omega (arith, sound s .upper))
+load-requires c κs = let s = c .before .before .before in (narrow s, omega (arith, sound s .upper))
 
 load-requires-2 : tie.Need-load-requires-2
-load-requires-2 c κs = let s = c .before .before in (narrow s, omega (arith, sound s .costs))
+load-requires-2 c κs = let s = c .before .before .before .before in (narrow s, omega (arith, sound s .costs))
 
 load-requires-3 : tie.Need-load-requires-3
-load-requires-3 c κs = let s = c .before .before .before in (narrow s, omega (arith, sound s .start))
+load-requires-3 c κs = let s = c .before .before .before .before .before in (narrow s, omega (arith, sound s .start))
 
 improve-requires : tie.Need-improve-requires
 improve-requires c κs =
-    let l = c .before .before in
+    let l = c .before .before .before .before in
     let s = begun l in
     let held = s .pre .0 in
     let terms = subst (λ (t : Terms). Planning t (l .load3 .result)) (sym (read-is l)) (subst (Planning (termsOf (problem s))) (sym (first-is l)) (planning s)) in
-    (record { isTable = held .table; area = held .area; few = held .few; small = held .small }, (terms, sound s .few))
+    (record { isTable = held .table; area = held .area; few = held .few; small = held .small }, (terms, (sound s .few, s .pre .1 .0)))
 
 store-requires : tie.Need-store-requires
-store-requires c κs = let s = c .before .before .before .before .before .before .before .before .before in (narrow s, omega (arith, sound s .room))
+store-requires c κs = let s = c .before .before .before .before .before .before .before .before .before .before .before .before .before .before .before .before .before in (narrow s, omega (arith, sound s .room))
 
 conclude-requires : tie.Need-conclude-requires
 conclude-requires c κs =
-    let d = c .before .before .before .before in
+    let d = c .before .before .before .before .before .before .before .before in
     subst (λ (t : Terms). Measured t (d .improve .result)) (sym (read-is (loads d))) (descent-measured (descends d) (planning (begun (loads d))))
 
 same-length : tie.Need-same-length
@@ -104,10 +104,16 @@ same-length-2 c = search needs
 same-length-3 : tie.Need-same-length-3
 same-length-3 c = search needs
 
+same-length-4 : tie.Need-same-length-4
+same-length-4 c = search needs
+
+same-length-5 : tie.Need-same-length-5
+same-length-5 c = search needs
+
 returns : tie.Need-returns
 returns c =
     let p = c .before in
-    let d = p .before .before .before .before in
+    let d = p .before .before .before .before .before .before .before .before in
     let l = loads d in
     let s = begun l in
     let a = s .args in
@@ -128,4 +134,6 @@ descend-listed-spec =
     same-length
     same-length-2
     same-length-3
+    same-length-4
+    same-length-5
     returns)

@@ -17,6 +17,7 @@ use Rattle.moves.proofs.Splits.{Numbered, listed, listed-held, listed-same}
 use Rattle.plans.specs.Found.{PlanEnds}
 use Rattle.plans.proofs.Endings.{call-listed, call-unlisted, ends-same}
 use Rattle.plans.proofs.Promised.{plan-promise}
+use native.Mathlib.Omega.{arith}
 use borrow.Author.Needs.{needs}
 use Rattle.plans.proofs.plan.Statement.{statement}
 use Rattle.plans.proofs.plan.Tie as tie
@@ -33,33 +34,39 @@ module _ (s : tie.Start) where
   areas = record { list = length (s .args .list .now); group = length (s .args .group .now); plan = length (s .args .plan .now) }
 
 -- the areas that the List leaves
-module _ (f : tie.After-make-list) where
+module _ (f : tie.After-make-list-with) where
   abbrev start : tie.Start
-  start = f .before .before .before .before .before
+  start = f .before .before .before .before .before .before .before
 
-  long : length (f .make-list .last .1 .1 .1 .1 .0) ≡ length (start .args .list .now)
-  long = f .make-list .kept .1 .1 .1 .1 .0
+  long : length (f .make-list-with .last .1 .1 .1 .1 .0) ≡ length (start .args .list .now)
+  long = f .make-list-with .kept .1 .1 .1 .1 .0
 
-  wide : length (f .make-list .last .1 .1 .1 .1 .1 .0) ≡ length (start .args .group .now)
-  wide = f .make-list .kept .1 .1 .1 .1 .1 .0
+  wide : length (f .make-list-with .last .1 .1 .1 .1 .1 .0) ≡ length (start .args .group .now)
+  wide = f .make-list-with .kept .1 .1 .1 .1 .1 .0
 
 -- the List found something
 module _ (k : tie.After-found2) where
-  abbrev f : tie.After-make-list
-  f = k .before .before .before .before .before
+  abbrev f : tie.After-make-list-with
+  f = k .before .before .before .before .before .before .before
 
   abbrev numbers : Numbers
   numbers = record { rows = k .found2 .given .0 .0; members = k .found2 .given .0 .1 .0; stored = k .found2 .given .0 .1 .1 .0; sums = k .found2 .given .0 .1 .1 .1 .0 }
 
   promised : ListPromise (sent (start f)) (length (start f .args .list .now)) (length (start f .args .group .now)) (Moves (numbers .rows) (numbers .members) (numbers .stored) (numbers .sums))
-      (f .make-list .last .1 .1 .1 .1 .0) (f .make-list .last .1 .1 .1 .1 .1 .0)
-  promised = promise-accepted (sent (start f)) _ _ _ _ _ _ (long f) (wide f) (finds-is (f .make-list .ensures) (k .found2 .given .1))
+      (f .make-list-with .last .1 .1 .1 .1 .0) (f .make-list-with .last .1 .1 .1 .1 .1 .0)
+  promised = promise-accepted (sent (start f)) _ _ _ _ _ _ (long f) (wide f) (finds-is (f .make-list-with .ensures) (k .found2 .given .1))
 
   found : Numbered promised (long f) (wide f) numbers
   found = listed promised (long f) (wide f) numbers refl
 
-make-list-requires : tie.Need-make-list-requires
-make-list-requires c κs = search needs
+slice-aggregate-make-list-with : tie.Need-slice-aggregate-make-list-with
+slice-aggregate-make-list-with c = search needs
+
+slice-aggregate-make-list-with-2 : tie.Need-slice-aggregate-make-list-with-2
+slice-aggregate-make-list-with-2 c = search needs
+
+make-list-with-requires : tie.Need-make-list-with-requires
+make-list-with-requires c κs = search needs
 
 enum-known-found : tie.Need-enum-known-found
 enum-known-found c = search needs
@@ -70,8 +77,16 @@ refuse-requires c κs = search needs
 enum-known-found-2 : tie.Need-enum-known-found-2
 enum-known-found-2 c = search needs
 
+slice-aggregate-test-listed : tie.Need-slice-aggregate-test-listed
+slice-aggregate-test-listed c = search needs
+
+slice-aggregate-test-listed-2 : tie.Need-slice-aggregate-test-listed-2
+slice-aggregate-test-listed-2 c = search needs
+
 test-listed-requires : tie.Need-test-listed-requires
-test-listed-requires c κs = let k = c .before .before .before .before in listed-held (promised k) (long (f k)) (wide (f k)) (found k)
+test-listed-requires c κs =
+    let k = c .before .before .before .before .before .before in
+    (listed-held (promised k) (long (f k)) (wide (f k)) (found k), omega (arith, f k .make-list-with .kept .1 .1 .1 .1 .1 .1 .0))
 
 same-length : tie.Need-same-length
 same-length c = search needs
@@ -85,11 +100,11 @@ same-length-3 c = search needs
 returns : tie.Need-returns
 returns c =
     let k = c .before .before .before .before .before .before .before .before .before in
-    let g = k .before .before .before .before .before in
+    let g = k .before .before .before .before .before .before .before in
     let s = start g in
     let x = c .before .before .before .before .refuse in
     let due = ap₂ (λ (l m : ℕ). planRefused (record { list = l; group = m; plan = length (s .args .plan .now) }) (k .found .given .0 .0) (k .found .given .0 .1 .0)) (long g) (wide g)
-    ∙ call-unlisted (sent s) (problem s) (areas s) (found-refused (sent s) _ _ (finds-is (g .make-list .ensures) (k .found .given .1))) in
+    ∙ call-unlisted (sent s) (problem s) (areas s) (found-refused (sent s) _ _ (finds-is (g .make-list-with .ensures) (k .found .given .1))) in
     let E = ends-same due (x .ensures) in
     plan-promise (sent s) (problem s) (areas s) (E .answerIs) (E .listHolds) (E .groupHolds) (E .planHolds)
     (x .kept .1 .1 .0 ∙ long g) (x .kept .1 .1 .1 .0 ∙ wide g) (x .kept .1 .1 .1 .1 .0)
@@ -105,11 +120,11 @@ same-length-6 c = search needs
 
 returns-2 : tie.Need-returns-2
 returns-2 c =
-    let k = c .before .before .before .before .before .before .before .before .before in
+    let k = c .before .before .before .before .before .before .before .before .before .before .before .before .before in
     let g = f k in
     let s = start g in
-    let x = c .before .before .before .before .test-listed in
-    let at : Listing = listingIn (s .args .n) (numbers k) (g .make-list .last .1 .1 .1 .1 .0) (g .make-list .last .1 .1 .1 .1 .1 .0) in
+    let x = c .before .before .before .before .before .before .test-listed in
+    let at : Listing = listingIn (s .args .n) (numbers k) (g .make-list-with .last .1 .1 .1 .1 .0) (g .make-list-with .last .1 .1 .1 .1 .1 .0) in
     let due =
     ap₂ (λ (l m : ℕ). planOf (s .args .n) (problem s) (record { list = l; group = m; plan = length (s .args .plan .now) }) (accepted at)) (long g) (wide g)
     ∙ call-listed (sent s) (problem s) (areas s) (listed-same (promised k) (long g) (wide g) (found k)) in
@@ -121,10 +136,14 @@ pub plan-spec : {M : Type 1} → statement M
 plan-spec =
     tie.close
     (tie.spec
-    make-list-requires
+    slice-aggregate-make-list-with
+    slice-aggregate-make-list-with-2
+    make-list-with-requires
     enum-known-found
     refuse-requires
     enum-known-found-2
+    slice-aggregate-test-listed
+    slice-aggregate-test-listed-2
     test-listed-requires
     same-length
     same-length-2

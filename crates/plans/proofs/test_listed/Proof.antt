@@ -33,7 +33,9 @@ enum-told : tie.Need-enum-told
 enum-told c = search needs
 
 descend-listed-requires : tie.Need-descend-listed-requires
-descend-listed-requires c κs = (c .before .before .before .before .before .before .before .pre, sym (c .before .before .before .before .before .problem-fault .ensures) ∙ c .before .before .before .enum-told .given .1)
+descend-listed-requires c κs =
+    let s = c .before .before .before .before .before .before .before .before .before .before .before in
+    (s .pre .0, (s .pre .1, sym (c .before .before .before .before .before .before .before .problem-fault .ensures) ∙ c .before .before .before .before .before .enum-told .given .1))
 
 same-length : tie.Need-same-length
 same-length c = search needs
@@ -46,7 +48,7 @@ same-length-3 c = search needs
 
 returns : tie.Need-returns
 returns c =
-    let s = c .before .before .before .before .before .before .before .before .before .before .before .before .before in
+    let s = c .before .before .before .before .before .before .before .before .before .before .before .before .before .before .before in
     let e = sym (c .before .before .before .before .before .before .before .before .before .before .before .problem-fault .ensures) ∙ c .before .before .before .before .before .before .before .before .before .fault .given .1 in
     ends-same (tests-met (s .args .n) (problem s) (areas s) (found s) e) (c .before .before .before .before .refuse .ensures)
 
@@ -59,11 +61,17 @@ same-length-5 c = search needs
 same-length-6 : tie.Need-same-length-6
 same-length-6 c = search needs
 
+same-length-7 : tie.Need-same-length-7
+same-length-7 c = search needs
+
+same-length-8 : tie.Need-same-length-8
+same-length-8 c = search needs
+
 returns-2 : tie.Need-returns-2
 returns-2 c =
-    let s = c .before .before .before .before .before .before .before .before .before .before .before .before in
-    let e = sym (c .before .before .before .before .before .before .before .before .before .before .problem-fault .ensures) ∙ c .before .before .before .before .before .before .before .before .enum-told .given .1 in
-    ends-same (tests-unmet (s .args .n) (problem s) (areas s) (found s) e) (c .before .before .before .before .descend-listed .ensures)
+    let s = c .before .before .before .before .before .before .before .before .before .before .before .before .before .before .before .before .before .before .before .before in
+    let e = sym (c .before .before .before .before .before .before .before .before .before .before .before .before .before .before .before .before .problem-fault .ensures) ∙ c .before .before .before .before .before .before .before .before .before .before .before .before .before .before .enum-told .given .1 in
+    ends-same (tests-unmet (s .args .n) (problem s) (areas s) (found s) e) (c .before .before .before .before .before .before .before .before .descend-listed .ensures)
 
 pub test-listed-spec : {M : Type 1} → statement M
 test-listed-spec =
@@ -81,4 +89,6 @@ test-listed-spec =
     same-length-4
     same-length-5
     same-length-6
+    same-length-7
+    same-length-8
     returns-2)

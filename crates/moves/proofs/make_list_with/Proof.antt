@@ -1,4 +1,4 @@
--- `make_list` meets its contract: 5 to 11, and then the rows. Assumes nothing.
+-- `make_list_with` meets its contract: 5 to 11, and then the rows. Assumes nothing.
 use mathlib.Core.Path.{_≡_, sym, ap, _∙_}
 use Prim.Native.Nat.{ℕ}
 use lib.ListN.{length}
@@ -13,8 +13,8 @@ use Rattle.admission.proofs.Tests.{admission-members, admission-refused}
 use Rattle.moves.proofs.Tables.{held-table, held-grouped}
 use Rattle.moves.proofs.Ends.{finds-refused, finds-admitted, listing-unadmitted}
 use borrow.Author.Needs.{needs}
-use Rattle.moves.proofs.make_list.Statement.{statement}
-use Rattle.moves.proofs.make_list.Tie as tie
+use Rattle.moves.proofs.make_list_with.Statement.{statement}
+use Rattle.moves.proofs.make_list_with.Tie as tie
 
 -- the order that was sent, and the sizes of the areas
 module _ (s : tie.Start) where
@@ -33,7 +33,7 @@ module _ (s : tie.Start) where
 -- what 5 to 11 came to
 module _ (c : tie.After-admit) where
   abbrev start : tie.Start
-  start = c .before .before .before .before .before
+  start = c .before .before .before .before .before .before .before
 
   fault-is : admissionFault (sent start) (size start) (c .before .before .whole-rows .result) ≡ fault start
   fault-is = ap (admissionFault (sent start) (size start)) (c .before .before .whole-rows .ensures)
@@ -72,8 +72,8 @@ enum-known-admission-2 c = search needs
 
 complete-list-requires : tie.Need-complete-list-requires
 complete-list-requires c κs =
-    let k = c .before .before .before in
-    held-grouped (admitted k) (held k) (held-long (t k)) (passed k .1)
+    let k = c .before .before .before .before .before in
+    (held-grouped (admitted k) (held k) (held-long (t k)) (passed k .1), start (t k) .pre)
 
 same-length : tie.Need-same-length
 same-length c = search needs
@@ -90,15 +90,21 @@ same-length-2 c = search needs
 same-length-3 : tie.Need-same-length-3
 same-length-3 c = search needs
 
+same-length-4 : tie.Need-same-length-4
+same-length-4 c = search needs
+
+same-length-5 : tie.Need-same-length-5
+same-length-5 c = search needs
+
 returns-2 : tie.Need-returns-2
 returns-2 c =
-    let f = c .before in
-    let k = f .before .before .before .before in
+    let f = c .before .before .before .before .before in
+    let k = f .before .before .before .before .before .before in
     let s = start (t k) in
     finds-admitted (sent s) (listSize s) (size s) (held-long (t k)) (held-table (admitted k) (held k) (held-long (t k)) (passed k .1)) (passed k .0) (f .complete-list .ensures)
 
-pub make-list-spec : {M : Type 1} → statement M
-make-list-spec =
+pub make-list-with-spec : {M : Type 1} → statement M
+make-list-with-spec =
     tie.close
     (tie.spec
     whole-rows-requires
@@ -110,4 +116,6 @@ make-list-spec =
     returns
     same-length-2
     same-length-3
+    same-length-4
+    same-length-5
     returns-2)
