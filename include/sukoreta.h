@@ -260,8 +260,8 @@ int64_t sukoreta_lent_window(size_t n, const int32_t *generators, size_t generat
  *   r >= 0  the number of steps taken. The list and group areas hold what List leaves there, the plan area the plan that
  *           was reached: within its bounds, and the start plus a vector of the lattice. The counts area holds steps, 1
  *           or 0, the distance bound, rows, g, k, sums. 1 says that no such plan is cheaper, and the distance bound is
- *           then 0; 0 says that the budget is spent and that an image is left that lowers the cost: then no such plan is
- *           cheaper by more than the distance bound. Behind that each area holds zeros.
+ *           then 0; 0 says that the budget is spent and that an image is left that lowers the cost: then some such plan
+ *           is cheaper, but none by more than the distance bound. Behind that each area holds zeros.
  *   r < 0   -(32 * place + number) of a refusal. Every written area holds zeros alone.
  *
  * An order meets the refusals of List, and then come these:

@@ -2,7 +2,7 @@
 use mathlib.Core.Path.{_≡_, refl, sym, ap, ap₂, _∙_}
 use mathlib.Core.Bool.{true}
 use mathlib.Core.List.{_∷_}
-use Prim.Native.Nat.{ℕ, suc, _+_, _*_, _-_, _^_, _≤_, _<_}
+use Prim.Native.Nat.{ℕ, _+_, _*_, _-_, _^_, _≤_, _<_}
 use native.Mathlib.Nat.{mul-le-mul}
 use native.Mathlib.Omega.{arith}
 use lib.IntN.{ℤ, pos, negsuc, natAbs, _+ℤ_, _*ℤ_}
@@ -13,10 +13,10 @@ use mir.Facts.{toZ-ofZ}
 use Rattle.definitions.specs.Limits.{cells, costLimit}
 use Rattle.definitions.specs.Vector.{Vector, within}
 use Rattle.definitions.specs.Plan.{cost, reach}
-use Rattle.theory.proofs.Cell.{abs-neg, abs-plus}
-use Rattle.theory.proofs.Members.{each-cons, each-nil}
-use Rattle.theory.proofs.Bounds.{Within, within-cell, within-each}
+use Rattle.theory.proofs.Bounds.{within-cell, within-each}
 use Rattle.theory.proofs.Accepted.{each-drop}
+use Rattle.certified_theory.proofs.Additive.{abs-multiple}
+use Rattle.plan_theory.proofs.Sizes.{cost-small}
 use Rattle.vectors.specs.Bounds.{headroom}
 use Rattle.vectors.proofs.Cells.{wide-read}
 use Rattle.vectors.proofs.Kit.{cellAt, drop-one}
@@ -53,27 +53,12 @@ module _ (u v : Vector) (i : ℕ) (some : 0 < i) (hu : i ≤ length u) (hv : i �
 
 -- ---- the size of a cost
 
--- the absolute value of a product
-abs-times : (x y : ℤ) → natAbs (x *ℤ y) ≡ natAbs x * natAbs y
-abs-times (pos a) (pos b) = refl
-abs-times (pos a) (negsuc b) = abs-neg (pos (a * suc b))
-abs-times (negsuc a) (pos b) = abs-neg (pos (suc a * b))
-abs-times (negsuc a) (negsuc b) = refl
-
 -- the greatest absolute value of a cost times an entry
 abbrev pub termLimit : ℕ
 termLimit = costLimit * headroom
 
 term-small : (c x : ℤ) → natAbs c ≤ costLimit → natAbs x ≤ headroom → natAbs (c *ℤ x) ≤ termLimit
-term-small c x h k = omega (arith, abs-times c x, mul-le-mul h k)
-
-pub cost-small : {costs v : Vector} → Within costLimit costs → Within headroom v
-    → natAbs (cost costs v) ≤ length costs * termLimit
-unfolding cost
-cost-small each-nil t = omega arith
-cost-small (each-cons h s) each-nil = omega arith
-cost-small {costs = c ∷ costs} {v = x ∷ v} (each-cons h s) (each-cons k t) =
-    omega (arith, abs-plus (c *ℤ x) (cost costs v), term-small c x h k, cost-small s t)
+term-small c x h k = omega (arith, abs-multiple c x, mul-le-mul h k)
 
 -- ---- what the machine makes of a cost
 
@@ -124,7 +109,7 @@ module _ {costs v : Vector} (p : Priced costs v) where
     left-fits =
         let s = each-drop j (within-each costLimit costs (p .priced)) in
         let t = each-drop j (within-each headroom v (p .bounded)) in
-        fits (cells * termLimit) left (omega (arith, cost-small s t, length-drop j costs, p .costs-long)) (omega arith)
+        fits (cells * termLimit) left (omega (arith, cost-small costLimit headroom s t, length-drop j costs, p .costs-long)) (omega arith)
 
   module _ (i : ℕ) (some : 0 < i) (inside : i ≤ cells) {s : ℤ} (sum : s ≡ left i) where
     -- one product more

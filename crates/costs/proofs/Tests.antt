@@ -1,19 +1,17 @@
 -- The tests of a problem, one after the other. Assumes nothing.
 use mathlib.Core.Path.{_≡_, sym, ap, _∙_}
-use mathlib.Core.Bool.{Bool, true, false, _&&_, not}
+use mathlib.Core.Bool.{Bool, true, false, not}
 use mathlib.Core.List.{List, [], _∷_}
 use Prim.Native.Nat.{ℕ}
-use borrow.Author.Tests.{eqb-true}
-use lib.Dec.{eqb, leb}
 use lib.IntN.{ℤ}
 use lib.ListN.{length}
 use Rattle.definitions.specs.declared.Fault.{Fault}
 use Rattle.definitions.specs.declared.Fault.the-variants.{None, At}
-use Rattle.definitions.specs.Limits.{budgetLimit, costLimit}
+use Rattle.definitions.specs.Limits.{costLimit}
 use Rattle.definitions.specs.Refusals.{faultIf, firstFault}
 use Rattle.definitions.specs.Plan.{Problem, isMisplanned, problemFault, problemFits}
 use Rattle.theory.proofs.Faults.{met-first, unmet-first, unmet-second}
-use Rattle.theory.proofs.Tests.{and-true-left, and-true-right}
+use Rattle.plan_theory.proofs.Problems.{problem-sized}
 use Rattle.refusals.specs.Tests.{pastFault}
 use Rattle.costs.specs.Problems.{boundsFault}
 
@@ -36,16 +34,7 @@ module _ (n : ℕ) (problem : Problem) (plan : ℕ) where
   module _ (fit : problemFits n problem plan ≡ true) where
     -- then the start and its upper bounds are as many
     pub as-many : length (problem .start) ≡ length (problem .upper)
-    unfolding problemFits
-    as-many =
-        let budget = leb (problem .budget) budgetLimit in
-        let start = eqb (length (problem .start)) n in
-        let upper = eqb (length (problem .upper)) n in
-        let costs = eqb (length (problem .costs)) n in
-        let all = and-true-left (budget && start && upper && costs) (eqb plan n) fit in
-        let both = and-true-left (budget && start && upper) costs all in
-        eqb-true _ n (and-true-right budget start (and-true-left (budget && start) upper both))
-        ∙ sym (eqb-true _ n (and-true-right (budget && start) upper both))
+    as-many = let sizes = problem-sized n problem plan fit in sizes .start ∙ sym (sizes .upper)
 
     others : firstFault (bounds ∷ past ∷ []) ≡ problemFault n problem plan
     unfolding problemFault faultIf isMisplanned

@@ -4,7 +4,7 @@ use mathlib.Core.Bool.{true, false}
 use mathlib.Core.List.{List, [], map, List·Memᴰ}
 use Prim.Native.Nat.{ℕ, suc, _+_, _≤_, _<_, _/_}
 use lib.IntN.{ℤ, pos, _+ℤ_}
-use lib.Signed.{_≤ℤ_}
+use lib.Signed.{_≤ℤ_, _<ℤ_}
 use lib.ListN.{length, getD, replicate}
 use Rattle.definitions.specs.declared.Answer.the-variants.{Passed}
 use Rattle.definitions.specs.declared.Answer.the-variants as answers
@@ -202,6 +202,12 @@ totalCost problem plan = cost (padded (problem .costs)) plan
 abbrev pub NoneCheaper : Order → Problem → (plan : Vector) → Type 0
 NoneCheaper order problem plan =
     (other : Vector) → Attainable order problem other → totalCost problem plan ≤ℤ totalCost problem other
+
+-- some such plan is cheaper
+pub record CheaperPlan (order : Order) (problem : Problem) (plan : Vector) : Type 0 where
+  pub other : Vector
+  pub attained : Attainable order problem other
+  pub cheaper : totalCost problem other <ℤ totalCost problem plan
 
 -- no such plan is cheaper by more than a bound
 abbrev pub NoneCheaperBy : Order → Problem → (bound : ℕ) (plan : Vector) → Type 0

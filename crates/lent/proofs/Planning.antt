@@ -1,12 +1,11 @@
 -- THE BEST PLAN FOR C keeps its promise (Specification 1.1, 3.10, 7.4 and 11): the plan with its counts, or zeros in
 -- every area. Assumes nothing.
 use mathlib.Core.Path.{_≡_, refl, sym, ap, subst, _∙_}
-use mathlib.Core.Bool.{true, false, true≢false, _&&_}
+use mathlib.Core.Bool.{true, false, true≢false}
 use mathlib.Core.List.{List, []}
 use Prim.Native.Nat.{ℕ, _≤_, _<_, _^_}
 use native.Mathlib.Omega.{arith}
-use borrow.Author.Tests.{eqb-true, not-false}
-use lib.Dec.{eqb, leb}
+use borrow.Author.Tests.{not-false}
 use lib.IntN.{ℤ, pos, negsuc}
 use lib.Signed.{nonNeg}
 use lib.ListN.{length, getD}
@@ -16,22 +15,21 @@ use Rattle.definitions.specs.declared.Fault.the-variants.{None, At}
 use Rattle.definitions.specs.declared.Planned.{Planned}
 use Rattle.definitions.specs.declared.Planned.the-variants.{Cheapest, Spent, Refused}
 use Rattle.definitions.specs.declared.Terms.{Terms}
-use Rattle.definitions.specs.Limits.{budgetLimit, cells}
+use Rattle.definitions.specs.Limits.{cells}
 use Rattle.definitions.specs.Orbit.{orbits}
 use Rattle.definitions.specs.Lent.{Order, filled}
 use Rattle.definitions.specs.Refusals.{Outcome, accepted, refused}
 use Rattle.definitions.specs.Calls.{Listing, listing}
 use Rattle.definitions.specs.Plan.{PlanEnd, PlanRoom, Problem, Stage, descendedEnd, isCheapest, planCall, planOf}
-use Rattle.definitions.specs.Plan.{planReached, planRefused, plannedAt, problemFault, problemFits}
+use Rattle.definitions.specs.Plan.{planReached, planRefused, plannedAt, problemFault}
 use Rattle.theory.proofs.Areas.{filled-nothing}
 use Rattle.theory.proofs.Counting.{if-cases}
 use Rattle.theory.proofs.Faults.{Said, if-none, said-end, said-first, said-if, said-where}
 use Rattle.theory.proofs.ListCall.{ListFacts, listing-facts}
 use Rattle.theory.proofs.Refused.{list-reported}
-use Rattle.theory.proofs.Tests.{and-true-left, and-true-right}
+use Rattle.plan_theory.proofs.Problems.{problem-sized, problem-sound}
 use Rattle.plan_theory.proofs.Results.{descent-few}
 use Rattle.plans.specs.Promise.{PlanPromise, PlanZero}
-use Rattle.plans.proofs.Problems.{problem-sound}
 use Rattle.answers.specs.Refusal.{refusalCode}
 use Rattle.answers.proofs.Refusals.{refusal-fits, refusal-negative}
 use Rattle.lent.specs.Ends.{PlanReports, PlanSmall, Reports, isPlanTold, lentPlan, planCounts, planResult}
@@ -52,28 +50,14 @@ TellablePlan (Spent steps bound rows members stored sums) = steps < 2 ^ 63
 TellablePlan (Refused number place) = Tellable number place
 
 module _ (n : ℕ) (problem : Problem) (planSize : ℕ) where
-  -- what 6 leaves: a starting entry and a cost for each cell
-  fitting : problemFits n problem planSize ≡ true → (length (problem .start) ≡ n) × (length (problem .costs) ≡ n)
-  unfolding problemFits
-  fitting e =
-      let few = leb (problem .budget) budgetLimit in
-      let start = eqb (length (problem .start)) n in
-      let upper = eqb (length (problem .upper)) n in
-      let costs = eqb (length (problem .costs)) n in
-      let four = and-true-left (few && start && upper && costs) (eqb planSize n) e in
-      let two = and-true-left (few && start) upper (and-true-left (few && start && upper) costs four) in (
-        eqb-true (length (problem .start)) n (and-true-right few start two),
-        eqb-true (length (problem .costs)) n (and-true-right (few && start && upper) costs four),
-      )
-
-  -- so that the places of 26 and 27 are cells
+  -- the places of 26 and 27 are cells
   tests-told : n ≤ cells → Said Tellable (problemFault n problem planSize)
   unfolding problemFault
   tests-told h =
       said-first _ (said-if 6 _ (omega arith, omega arith))
-      (λ e. let sizes = fitting (not-false _ (if-none 6 _ e)) in
-      said-first _ (said-where 26 (length (problem .start)) _ (λ p l. (omega arith, omega (arith, sizes .0))))
-      (λ f. said-first _ (said-where 27 (length (problem .costs)) _ (λ p l. (omega arith, omega (arith, sizes .1))))
+      (λ e. let sizes = problem-sized n problem planSize (not-false _ (if-none 6 _ e)) in
+      said-first _ (said-where 26 (length (problem .start)) _ (λ p l. (omega arith, omega (arith, sizes .start))))
+      (λ f. said-first _ (said-where 27 (length (problem .costs)) _ (λ p l. (omega arith, omega (arith, sizes .costs))))
       (λ g. said-end Tellable)))
 
 -- a plan with few steps
@@ -95,8 +79,8 @@ module _ (order : Order) (problem : Problem) (room : PlanRoom) where
     tested (At number place) f h = h .said
     tested None f h =
         let S = problem-sound (order .n) problem (room .plan) f in
-        let few = descent-few facts problem (S .start) (S .begins) in
-        planned-told _ found _ (omega (arith, few, S .few))
+        let few = descent-few facts problem (S .sized .start) (S .begins) in
+        planned-told _ found _ (omega (arith, few, S .sized .few))
 
   -- A RESULT CAN TELL EVERY ANSWER of a plan
   plan-tellable : TellablePlan (planCall order problem room .answer)

@@ -167,11 +167,9 @@ PlanSmall (planned.Cheapest steps rows members stored sums) = steps < 2 ^ 63
 PlanSmall (planned.Spent steps bound rows members stored sums) = steps < 2 ^ 63
 PlanSmall (planned.Refused number place) = refusalCode number place < 2 ^ 63
 
--- it can be told with a counts area of `size` numbers: there is room for its counts, or it is a refusal
+-- it can be told with a counts area of `size` numbers: there is room for its counts
 abbrev pub isPlanTold : Planned → (size : ℕ) → Bool
-isPlanTold (planned.Cheapest steps rows members stored sums) size = leb 7 size
-isPlanTold (planned.Spent steps bound rows members stored sums) size = leb 7 size
-isPlanTold (planned.Refused number place) size = true
+isPlanTold answer size = leb (length (planCounts answer)) size
 
 -- the plan is reported: its result, and its counts in an area, with zeros behind them
 pub record PlanReports (answer : Planned) (size : ℕ) (result : ℤ) (counts : List ℕ) : Type 0 where

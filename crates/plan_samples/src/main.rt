@@ -1,8 +1,8 @@
 // Works the sample plans of Specification 10 by the lent call, and prints of each its name, its answer, and the three
 // areas whole, which were full of 9 before. An answer is CHEAPEST with the number of steps and the counts of the List,
 // SPENT with the number of steps, the distance bound and these counts, or REFUSED with the number and the place. Then
-// come LIST, a line for each row of the list area, and END; PLAN, the plan area in one line, and END; and GROUP with the
-// numbers of the group area. The file `stdout`, with which the check compares this, was not made by a run: its lines
+// come LIST, a line for each row of the list area, and END; PLAN, the plan area in one line, and END; and GROUP with
+// the numbers of the group area. The file `stdout`, with which the check compares this, was not made by a run: its lines
 // were made from the table of the sample plans.
 ghost use Prim.Native.Nat.{_≤_};
 ghost use lib.ListN.{length};

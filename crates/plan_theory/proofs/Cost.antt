@@ -1,16 +1,16 @@
--- The cost of a sum, of a negative, and of many vectors that each lower it little. Assumes nothing.
+-- The cost of a sum, of a negative, and of vectors that lower it. Assumes nothing.
 use mathlib.Core.Path.{_≡_, refl, sym, _∙_, ap, ap₂}
 use mathlib.Core.List.{List, [], _∷_}
-use Prim.Native.Nat.{ℕ, zero, suc, _+_, _*_, _≤_}
+use Prim.Native.Nat.{ℕ, zero, suc, _+_, _*_, _≤_, _<_}
 use native.Mathlib.Omega.{arith}
-use lib.Dec.{T, le→leb}
+use lib.Dec.{T, le→leb, lt→ltb}
 use lib.ListN.{length}
 use lib.IntN.{ℤ, pos, negsuc, _+ℤ_, _*ℤ_, negℤ, +ℤ-assoc, +ℤ-comm, *ℤ-comm, *ℤ-zero, negℤ-+ℤ}
-use lib.Signed.{leZ, _≤ℤ_}
+use lib.Signed.{leZ, ltZ, _≤ℤ_, _<ℤ_}
 use Rattle.definitions.specs.Limits.{cells}
 use Rattle.definitions.specs.Vector.{Vector, negative, plus, total, zeroVector, zeros}
 use Rattle.definitions.specs.Plan.{cost, fall}
-use Rattle.theory.proofs.Cell.{balance, down, up}
+use Rattle.theory.proofs.Cell.{apart, balance, down, up}
 use Rattle.theory.proofs.Conformal.{length-total}
 use Rattle.theory.proofs.Lattice.{neg-times, plus-times}
 use Rattle.theory.proofs.Members.{Each, each-cons, each-nil}
@@ -24,6 +24,15 @@ le-complete (negsuc a) (negsuc b) h = le→leb b a (omega arith)
 
 pub to-≤ℤ : (x y : ℤ) → up x + down y ≤ up y + down x → x ≤ℤ y
 to-≤ℤ x y h = record { le = le-complete x y h }
+
+lt-complete : (x y : ℤ) → up x + down y < up y + down x → T (ltZ x y)
+lt-complete (pos a) (pos b) h = lt→ltb a b (omega arith)
+lt-complete (pos a) (negsuc b) h = absurd (omega arith)
+lt-complete (negsuc a) (pos b) h = tt
+lt-complete (negsuc a) (negsuc b) h = lt→ltb b a (omega arith)
+
+to-<ℤ : (x y : ℤ) → up x + down y < up y + down x → x <ℤ y
+to-<ℤ x y h = record { lt = lt-complete x y h }
 
 pub fall-down : (z : ℤ) → fall z ≡ down z
 unfolding fall
@@ -69,6 +78,22 @@ cost-zeros (c ∷ costs) (suc n) = ap₂ _+ℤ_ (*ℤ-zero c) (cost-zeros costs 
 pub cost-zero : (costs : Vector) → cost costs zeroVector ≡ pos 0
 unfolding zeroVector
 cost-zero costs = cost-zeros costs cells
+
+-- a vector that lowers the cost leads to a cheaper plan
+pub cost-lower : (costs x v : Vector) → length x ≡ length v → 0 < fall (cost costs v)
+    → cost costs (plus x v) <ℤ cost costs x
+cost-lower costs x v p h =
+    let e = cost-plus costs x v p in
+    to-<ℤ (cost costs (plus x v)) (cost costs x)
+    (omega (
+      arith,
+      ap up e,
+      ap down e,
+      balance (cost costs x) (cost costs v),
+      apart (cost costs v),
+      fall-down (cost costs v),
+      h,
+    ))
 
 -- vectors that each lower the cost by at most d lower it together by at most d for each
 pub floor-total : (costs : Vector) (d : ℕ) {vs : List Vector} → Each (λ v. length v ≡ cells) vs

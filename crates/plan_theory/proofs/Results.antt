@@ -5,7 +5,7 @@ use mathlib.Core.List.{List, List·Memᴰ}
 use Prim.Native.Nat.{ℕ, _*_, _≤_, _<_}
 use native.Mathlib.Omega.{arith}
 use native.Mathlib.Nat.{zero-mul}
-use borrow.Author.Tests.{eqb-true}
+use borrow.Author.Tests.{eqb-false, eqb-true}
 use lib.ListN.{length}
 use lib.IntN.{ℤ, pos, _+ℤ_, +ℤ-idr}
 use lib.Signed.{_≤ℤ_}
@@ -17,7 +17,7 @@ use Rattle.definitions.specs.Completion.{remainder}
 use Rattle.definitions.specs.Lent.{Order, generatorsOf}
 use Rattle.definitions.specs.Calls.{Listing}
 use Rattle.definitions.specs.Plan.{Problem, Stage, bestGain, bestStep, descent, distanceBound, feasible, isCheapest, reach, termsOf}
-use Rattle.definitions.specs.Demands.{Attainable, NoneCheaper, NoneCheaperBy, totalCost}
+use Rattle.definitions.specs.Demands.{Attainable, CheaperPlan, NoneCheaper, NoneCheaperBy, totalCost}
 use Rattle.theory.proofs.Accepted.{padded-length}
 use Rattle.theory.proofs.Conformal.{Conformal}
 use Rattle.theory.proofs.Lattice.{lattice-negative, lattice-plus, lattice-zeros, plus-four}
@@ -28,8 +28,9 @@ use Rattle.theory.proofs.Rows.{Short, lattice-short, short-plus, short-rows, ve
 use Rattle.theory.proofs.Symmetric.{inside-length}
 use Rattle.theory.proofs.Vector.{length-minus, length-negative, minus-itself, negative-plus, plus-assoc, plus-comm, plus-minus, plus-zero}
 use Rattle.theory.proofs.Whole.{orbits-inside, orbits-positive, whole-reduces}
-use Rattle.plan_theory.proofs.Best.{best-listed, gain-feasible}
+use Rattle.plan_theory.proofs.Best.{best-listed, gain-fall, gain-feasible}
 use Rattle.plan_theory.proofs.Bounds.{feasible-length}
+use Rattle.plan_theory.proofs.Cost.{cost-lower}
 use Rattle.plan_theory.proofs.Descents.{Ends, conformal-distance, descent-ends}
 
 -- two differences from one vector
@@ -108,6 +109,23 @@ module _ {order : Order} {found : Listing} (F : ListFacts order found) (problem 
       g : Vector
       g = bestStep (termsOf problem) images x
 
+  -- a step that gains leads to a cheaper plan
+  lower : (x : Vector) → 0 < bestGain (termsOf problem) images x → Attainable order problem x → CheaperPlan order problem x
+  unfolding termsOf bestGain
+  lower x h a = record {
+    other = plus x g;
+    attained = next x h a;
+    cheaper = cost-lower (padded (problem .costs)) x g (attained-long a ∙ sym g-long) (omega (arith, h, gain-fall (termsOf problem) x g));
+  }
+    where
+      g : Vector
+      g = bestStep (termsOf problem) images x
+
+      g-long : length g ≡ cells
+      g-long =
+          inside-length (F .symmetric)
+          (each-member (orbits-inside (F .symmetric) (found .rows) (F .stored)) (best-listed (termsOf problem) x images h))
+
   -- ---- the theorems
   ends : Ends (termsOf problem) images (Attainable order problem) (problem .budget) s
   ends = descent-ends (termsOf problem) images (Attainable order problem) next (problem .budget) start first
@@ -121,6 +139,12 @@ module _ {order : Order} {found : Listing} (F : ListFacts order found) (problem 
 
   pub descent-spent : isCheapest (termsOf problem) images s ≡ false → s .steps ≡ problem .budget
   descent-spent e = ends .spent e
+
+  -- WHERE SOME IMAGE GAINS, SOME SUCH PLAN IS CHEAPER
+  pub descent-left : isCheapest (termsOf problem) images s ≡ false → CheaperPlan order problem (s .plan)
+  unfolding isCheapest
+  descent-left e =
+      lower (s .plan) (omega (arith, eqb-false (bestGain (termsOf problem) images (s .plan)) 0 e)) descent-attained
 
   -- NO SUCH PLAN IS CHEAPER BY MORE THAN THE DISTANCE BOUND
   pub descent-distance : NoneCheaperBy order problem (distanceBound (termsOf problem) images (s .plan)) (s .plan)

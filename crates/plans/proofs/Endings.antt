@@ -25,6 +25,7 @@ use Rattle.theory.proofs.Accepted.{padded-length}
 use Rattle.theory.proofs.Lists.{chunks-length}
 use Rattle.theory.proofs.Rows.{rows-count}
 use Rattle.plan_theory.proofs.Bounds.{feasible-length}
+use Rattle.plan_theory.proofs.Problems.{Sound}
 use Rattle.plan_theory.proofs.Sizes.{reach-bound}
 use Rattle.reduction.specs.declared.Extent.{Extent}
 use Rattle.moves.specs.declared.Numbers.{Numbers}
@@ -32,7 +33,6 @@ use Rattle.moves.specs.Found.{Held, listingIn}
 use Rattle.descents.specs.declared.Descent.{Descent}
 use Rattle.descents.specs.Steps.{DescendsTo, Planning, imagesIn}
 use Rattle.plans.specs.Found.{Measured, PlanEnds, plannedIn}
-use Rattle.plans.proofs.Problems.{Sound}
 
 -- 6, 26 and 27, once the List has ended
 module _ (n : ℕ) (problem : Problem) (room : PlanRoom) (found : Listing) where
@@ -72,8 +72,8 @@ ends-same e E = record {
 pub sound-planning : {n planSize : ℕ} (problem : Problem) → n ≤ cells → Sound n problem planSize → Planning (termsOf problem) (padded (problem .start))
 unfolding termsOf
 sound-planning problem narrow S = record {
-  wide = padded-length (problem .upper) (omega (arith, S .upper, narrow));
-  long = padded-length (problem .costs) (omega (arith, S .costs, narrow));
+  wide = padded-length (problem .upper) (omega (arith, S .sized .upper, narrow));
+  long = padded-length (problem .costs) (omega (arith, S .sized .costs, narrow));
   costs = S .limited;
   upper = S .bounded;
   plan = S .begins;

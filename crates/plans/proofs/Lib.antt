@@ -1,4 +1,3 @@
 -- The search for the best plan within a budget.
-pub mod Problems
 pub mod Promised
 pub mod Endings

@@ -19,15 +19,15 @@ use Rattle.definitions.specs.Refusals.{Outcome, accepted, refused}
 use Rattle.definitions.specs.Calls.{Listing, listing}
 use Rattle.definitions.specs.Plan.{PlanEnd, PlanRoom, Problem, Stage, descendedEnd, descent, distanceBound, isCheapest}
 use Rattle.definitions.specs.Plan.{planCall, planOf, planReached, planRefused, plannedAt, problemFault, termsOf}
-use Rattle.definitions.specs.Demands.{Attainable, NoneCheaper, NoneCheaperBy}
+use Rattle.definitions.specs.Demands.{Attainable, CheaperPlan, NoneCheaper, NoneCheaperBy}
 use Rattle.theory.proofs.Areas.{filled-nothing}
 use Rattle.theory.proofs.Counting.{if-cases}
 use Rattle.theory.proofs.Rows.{short-padded}
 use Rattle.theory.proofs.ListCall.{ListFacts, listing-facts}
+use Rattle.plan_theory.proofs.Problems.{Sound, problem-sound}
 use Rattle.plan_theory.proofs.Results.{descent-attained, descent-cheapest, descent-distance, descent-few}
-use Rattle.plan_theory.proofs.Results.{descent-long, descent-short, descent-spent}
+use Rattle.plan_theory.proofs.Results.{descent-left, descent-long, descent-short, descent-spent}
 use Rattle.plans.specs.Promise.{BudgetSpent, CheapestReached, PlanAccepted, PlanPromise, PlanZero}
-use Rattle.plans.proofs.Problems.{Sound, problem-sound}
 
 -- zeros, by the size that an area has
 cleared : {A : Type 0} (blank : A) {xs : List A} (size : ℕ) → length xs ≡ size → xs ≡ filled blank size []
@@ -91,15 +91,15 @@ module _ (order : Order) (problem : Problem) (room : PlanRoom) (answer : Planned
         taken : length (take (order .n) (s .plan)) ≡ order .n
         taken =
             length-take-le (order .n) (s .plan)
-            (omega (arith, F .symmetric .fits, descent-long F problem (S .start) (S .begins)))
+            (omega (arith, F .symmetric .fits, descent-long F problem (S .sized .start) (S .begins)))
 
         plan-taken : plan ≡ take (order .n) (s .plan)
-        plan-taken = r ∙ filled-whole (pos 0) (room .plan) (take (order .n) (s .plan)) (taken ∙ sym (S .room))
+        plan-taken = r ∙ filled-whole (pos 0) (room .plan) (take (order .n) (s .plan)) (taken ∙ sym (S .sized .room))
 
         plan-reached : s .plan ≡ padded plan
         plan-reached =
             sym (ap padded plan-taken ∙ short-padded (order .n) (s .plan) (F .symmetric .fits)
-            (descent-long F problem (S .start) (S .begins)) (descent-short F problem (S .start) (S .begins)))
+            (descent-long F problem (S .sized .start) (S .begins)) (descent-short F problem (S .sized .start) (S .begins)))
 
         held : PlanAccepted order problem list group plan
         held = record {
@@ -107,8 +107,8 @@ module _ (order : Order) (problem : Problem) (room : PlanRoom) (answer : Planned
           kept = F .kept;
           listHolds = p ∙ ap (λ (k : ℕ). filled (pos 0) k (numbersOf (order .n) (found .rows))) (sym long);
           groupHolds = q ∙ ap (λ (k : ℕ). filled 0 k (concat (found .table))) (sym wide);
-          sized = deep ∙ S .room;
-          attained = subst (Attainable order problem) plan-reached (descent-attained F problem (S .start) (S .begins));
+          sized = deep ∙ S .sized .room;
+          attained = subst (Attainable order problem) plan-reached (descent-attained F problem (S .sized .start) (S .begins));
         }
 
         -- no image gains
@@ -120,10 +120,10 @@ module _ (order : Order) (problem : Problem) (room : PlanRoom) (answer : Planned
           cheapest = λ steps rows members stored sums e. record {
             accepted = held;
             steps = s .steps;
-            few = descent-few F problem (S .start) (S .begins);
+            few = descent-few F problem (S .sized .start) (S .begins);
             says = says;
             cheapest = subst (NoneCheaper order problem) plan-reached
-                (descent-cheapest F problem (S .start) (S .begins) t);
+                (descent-cheapest F problem (S .sized .start) (S .begins) t);
           };
           spent = λ steps bound rows members stored sums e. let z : _≡_ {A = ℕ} 0 1 = cc in absurd (omega arith);
           refused = λ m i e. let z : _≡_ {A = ℕ} 0 1 = cc in absurd (omega arith);
@@ -144,9 +144,11 @@ module _ (order : Order) (problem : Problem) (room : PlanRoom) (answer : Planned
           spent = λ steps bound rows members stored sums e. record {
             accepted = held;
             bound = distance;
-            says = says ∙ ap spentIn (descent-spent F problem (S .start) (S .begins) f);
+            says = says ∙ ap spentIn (descent-spent F problem (S .sized .start) (S .begins) f);
+            left = subst (CheaperPlan order problem) plan-reached
+                (descent-left F problem (S .sized .start) (S .begins) f);
             distance = subst (NoneCheaperBy order problem distance) plan-reached
-                (descent-distance F problem (S .start) (S .begins));
+                (descent-distance F problem (S .sized .start) (S .begins));
           };
           refused = λ m i e. let z : _≡_ {A = ℕ} 0 1 = cc in absurd (omega arith);
         }

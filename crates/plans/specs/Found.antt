@@ -38,13 +38,13 @@ PlanEndsIn due list group plan answer =
     PlanEnds (due (roomIn list group plan)) answer (now (list .exit)) (now (group .exit)) (now (plan .exit))
 
 -- the first k rows of a list and the table of a group, within the limits
-pub record Listed (extent : Extent) (list : List ℤ) (group : List ℕ) : Type 0 where
+pub record InUse (extent : Extent) (list : List ℤ) (group : List ℕ) : Type 0 where
   pub isTable : Table (extent .shape) group
   pub area : Area (extent .shape .n) (extent .k) list
   pub few : extent .k ≤ listLimit
   pub small : extent .shape .g ≤ groupLimit
 
--- a feasible plan with few steps, whose distance bound fits
+-- a feasible plan, whose distance bound fits
 pub record Measured (terms : Terms) (end : Descent) : Type 0 where
   pub plan : feasible (terms .upper) (end .plan) ≡ true
   pub fits : end .gain * reach (terms .upper) (end .plan) < 2 ^ 64
@@ -53,8 +53,8 @@ pub record Measured (terms : Terms) (end : Descent) : Type 0 where
 abbrev pub plannedIn : Terms → Numbers → Descent → Planned
 plannedIn terms found end =
     if eqb (end .gain) 0 then Cheapest (end .steps) (found .rows) (found .members) (found .stored) (found .sums)
-    else Spent (end .steps) (end .gain * reach (terms .upper) (end .plan)) (found .rows) (found .members) (found .stored)
-    (found .sums)
+    else Spent (end .steps) (end .gain * reach (terms .upper) (end .plan))
+    (found .rows) (found .members) (found .stored) (found .sums)
 
 -- the list that the areas hold
 abbrev pub listedIn : (n : ℕ) → Numbers → (list : Lent ℤ) (group : Lent ℕ) → Listing

@@ -13,11 +13,11 @@ use Rattle.definitions.specs.Vector.{padded}
 use Rattle.definitions.specs.Lent.{Order, filled, numbersOf}
 use Rattle.definitions.specs.Calls.{Listing}
 use Rattle.definitions.specs.Plan.{PlanRoom, Problem, planCall}
-use Rattle.definitions.specs.Demands.{Attainable, ListKept, NoneCheaper, NoneCheaperBy}
+use Rattle.definitions.specs.Demands.{Attainable, CheaperPlan, ListKept, NoneCheaper, NoneCheaperBy}
 use Rattle.vectors.specs.Areas.{Lent}
 
--- the list area holds a whole list, sorted, and the group area the table of the group; the plan area holds a plan within
--- its bounds that differs from the start by a lattice vector
+-- the list area holds a whole list, sorted, and the group area the table of the group; the plan area holds a plan
+-- within its bounds that differs from the start by a lattice vector
 pub record PlanAccepted (order : Order) (problem : Problem) (list : List ℤ) (group : List ℕ) (plan : List ℤ)
     : Type 0 where
   pub found : Listing
@@ -38,7 +38,7 @@ pub record CheapestReached (order : Order) (problem : Problem) (answer : Planned
       (accepted .found .sums)
   pub cheapest : NoneCheaper order problem (padded plan)
 
--- the budget is spent, and no such plan is cheaper by more than the bound
+-- the budget is spent: some such plan is cheaper, and none is cheaper by more than the bound
 pub record BudgetSpent (order : Order) (problem : Problem) (answer : Planned) (list : List ℤ) (group : List ℕ)
     (plan : List ℤ) : Type 0 where
   pub accepted : PlanAccepted order problem list group plan
@@ -46,6 +46,7 @@ pub record BudgetSpent (order : Order) (problem : Problem) (answer : Planned) (l
   pub says : answer
       ≡ Spent (problem .budget) bound (length (accepted .found .rows)) (length (accepted .found .table))
       (accepted .found .stored) (accepted .found .sums)
+  pub left : CheaperPlan order problem (padded plan)
   pub distance : NoneCheaperBy order problem bound (padded plan)
 
 -- demand 1: zeros in every area lent for writing

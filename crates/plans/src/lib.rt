@@ -9,7 +9,7 @@ ghost use Rattle.moves.specs.Found.{Held};
 ghost use Rattle.costs.specs.Problems.{problemIn};
 ghost use Rattle.descents.specs.Steps.{DescendsTo, Planning};
 ghost use Rattle.plans.specs.Promise.{KeepsPlan};
-ghost use Rattle.plans.specs.Found.{Fitting, Listed, Measured, PlanEndsIn, descended, plannedIn, tested};
+ghost use Rattle.plans.specs.Found.{Fitting, InUse, Measured, PlanEndsIn, descended, plannedIn, tested};
 use costs::problem_fault;
 use costs::reach;
 use definitions::Fault;
@@ -55,7 +55,7 @@ fn improve(
     marks: &mut [u8],
     keys: &mut [u64],
 ) -> Descent
-    requires listed { ⌜ Listed extent (now list) (now group) ⌝ }
+    requires listed { ⌜ InUse extent (now list) (now group) ⌝ }
     requires planning { ⌜ Planning terms start ⌝ }
     requires few { ⌜ budget ≤ budgetLimit ⌝ }
     requires room { ⌜ listLimit * groupLimit ≤ length (now marks) ⌝ }

@@ -11,11 +11,11 @@ use Rattle.definitions.specs.Limits.{cells}
 use Rattle.definitions.specs.Vector.{Vector, padded}
 use Rattle.definitions.specs.Lent.{filled}
 use Rattle.definitions.specs.Plan.{PlanRoom, Problem, termsOf}
+use Rattle.plan_theory.proofs.Problems.{Sound, problem-sound}
 use Rattle.moves.proofs.Splits.{vector-read}
 use Rattle.reduction.specs.declared.Extent.{Extent}
 use Rattle.descents.specs.Steps.{DescendsTo, Planning}
 use Rattle.plans.specs.Found.{Measured, plannedIn}
-use Rattle.plans.proofs.Problems.{Sound, problem-sound}
 use Rattle.plans.proofs.Endings.{descended-ends, descent-measured, sound-planning}
 use Rattle.plans.proofs.descend_listed.Statement.{statement}
 use Rattle.plans.proofs.descend_listed.Tie as tie
@@ -48,12 +48,12 @@ module _ (l : tie.After-load3) where
   read-is : read ≡ termsOf (problem begun)
   unfolding termsOf
   read-is = λ i. record {
-    upper = (l .before .before .load .ensures ∙ vector-read (begun .args .n) (begun .args .upper .now) (sound begun .upper)) i;
-    costs = (l .before .load2 .ensures ∙ vector-read (begun .args .n) (begun .args .costs .now) (sound begun .costs)) i;
+    upper = (l .before .before .load .ensures ∙ vector-read (begun .args .n) (begun .args .upper .now) (sound begun .sized .upper)) i;
+    costs = (l .before .load2 .ensures ∙ vector-read (begun .args .n) (begun .args .costs .now) (sound begun .sized .costs)) i;
   }
 
   first-is : l .load3 .result ≡ padded (begun .args .start .now)
-  first-is = l .load3 .ensures ∙ vector-read (begun .args .n) (begun .args .start .now) (sound begun .start)
+  first-is = l .load3 .ensures ∙ vector-read (begun .args .n) (begun .args .start .now) (sound begun .sized .start)
 
 -- the descent from them
 module _ (d : tie.After-improve) where
@@ -71,13 +71,13 @@ module _ (d : tie.After-improve) where
       (subst (λ (v : Vector). DescendsTo (read loads) extent (a .group .now) (a .list .now) (a .budget) v (d .improve .result)) (first-is loads) (d .improve .ensures))
 
 load-requires : tie.Need-load-requires
-load-requires c κs = let s = c .before .before .before in (narrow s, omega (arith, sound s .upper))
+load-requires c κs = let s = c .before .before .before in (narrow s, omega (arith, sound s .sized .upper))
 
 load-requires-2 : tie.Need-load-requires-2
-load-requires-2 c κs = let s = c .before .before .before .before in (narrow s, omega (arith, sound s .costs))
+load-requires-2 c κs = let s = c .before .before .before .before in (narrow s, omega (arith, sound s .sized .costs))
 
 load-requires-3 : tie.Need-load-requires-3
-load-requires-3 c κs = let s = c .before .before .before .before .before in (narrow s, omega (arith, sound s .start))
+load-requires-3 c κs = let s = c .before .before .before .before .before in (narrow s, omega (arith, sound s .sized .start))
 
 improve-requires : tie.Need-improve-requires
 improve-requires c κs =
@@ -85,10 +85,10 @@ improve-requires c κs =
     let s = begun l in
     let held = s .pre .0 in
     let terms = subst (λ (t : Terms). Planning t (l .load3 .result)) (sym (read-is l)) (subst (Planning (termsOf (problem s))) (sym (first-is l)) (planning s)) in
-    (record { isTable = held .table; area = held .area; few = held .few; small = held .small }, (terms, (sound s .few, s .pre .1 .0)))
+    (record { isTable = held .table; area = held .area; few = held .few; small = held .small }, (terms, (sound s .sized .few, s .pre .1 .0)))
 
 store-requires : tie.Need-store-requires
-store-requires c κs = let s = c .before .before .before .before .before .before .before .before .before .before .before .before .before .before .before .before .before in (narrow s, omega (arith, sound s .room))
+store-requires c κs = let s = c .before .before .before .before .before .before .before .before .before .before .before .before .before .before .before .before .before in (narrow s, omega (arith, sound s .sized .room))
 
 conclude-requires : tie.Need-conclude-requires
 conclude-requires c κs =
@@ -118,7 +118,7 @@ returns c =
     let s = begun l in
     let a = s .args in
     let same = c .conclude .ensures ∙ ap (λ (t : Terms). plannedIn t (a .found) (d .improve .result)) (read-is l) in
-    let E = descended-ends (a .n) (a .found) (problem s) (a .list .now) (a .group .now) (descends d) (areas s) (s .pre .0) refl refl (planning s) (a .plan .now) refl (sound s .room) (p .before .store .ensures) in
+    let E = descended-ends (a .n) (a .found) (problem s) (a .list .now) (a .group .now) (descends d) (areas s) (s .pre .0) refl refl (planning s) (a .plan .now) refl (sound s .sized .room) (p .before .store .ensures) in
     record { answerIs = same ∙ E .answerIs; listHolds = E .listHolds; groupHolds = E .groupHolds; planHolds = E .planHolds }
 
 pub descend-listed-spec : {M : Type 1} → statement M

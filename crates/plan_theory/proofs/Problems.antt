@@ -18,16 +18,40 @@ use Rattle.theory.proofs.Bounds.{Within, each-within}
 use Rattle.theory.proofs.Faults.{if-none, tests-none, where-none}
 use Rattle.theory.proofs.Accepted.{padded-within, past-where}
 
--- what 6, 26 and 27 leave
-pub record Sound (n : ℕ) (problem : Problem) (planSize : ℕ) : Type 0 where
+-- what 6 leaves
+pub record Sized (n : ℕ) (problem : Problem) (planSize : ℕ) : Type 0 where
   pub few : problem .budget ≤ budgetLimit
   pub start : length (problem .start) ≡ n
   pub upper : length (problem .upper) ≡ n
   pub costs : length (problem .costs) ≡ n
   pub room : planSize ≡ n
+
+-- what 6, 26 and 27 leave
+pub record Sound (n : ℕ) (problem : Problem) (planSize : ℕ) : Type 0 where
+  pub sized : Sized n problem planSize
   pub limited : within costLimit (padded (problem .costs)) ≡ true
   pub bounded : within boundLimit (padded (problem .upper)) ≡ true
   pub begins : feasible (padded (problem .upper)) (padded (problem .start)) ≡ true
+
+-- ---- 6
+pub problem-sized : (n : ℕ) (problem : Problem) (planSize : ℕ) → problemFits n problem planSize ≡ true
+    → Sized n problem planSize
+unfolding problemFits
+problem-sized n problem planSize e =
+    let few = leb (problem .budget) budgetLimit in
+    let start = eqb (length (problem .start)) n in
+    let upper = eqb (length (problem .upper)) n in
+    let costs = eqb (length (problem .costs)) n in
+    let four = and-true-left (few && start && upper && costs) (eqb planSize n) e in
+    let three = and-true-left (few && start && upper) costs four in
+    let two = and-true-left (few && start) upper three in
+    record {
+      few = leb-true (problem .budget) budgetLimit (and-true-left few start two);
+      start = eqb-true (length (problem .start)) n (and-true-right few start two);
+      upper = eqb-true (length (problem .upper)) n (and-true-right (few && start) upper three);
+      costs = eqb-true (length (problem .costs)) n (and-true-right (few && start && upper) costs four);
+      room = eqb-true planSize n (and-true-right (few && start && upper && costs) (eqb planSize n) e);
+    }
 
 -- ---- 26
 -- a number from 0 to a limit is not past it
@@ -88,29 +112,17 @@ module _ (problem : Problem) (same : length (problem .start) ≡ length (problem
 -- A PROBLEM THAT MEETS NO TEST is sound
 pub problem-sound : (n : ℕ) (problem : Problem) (planSize : ℕ) → problemFault n problem planSize ≡ None
     → Sound n problem planSize
-unfolding problemFault problemFits
+unfolding problemFault
 problem-sound n problem planSize e =
     let a = tests-none _ _ e in
     let b = tests-none _ _ (a .1) in
     let c = tests-none _ _ (b .1) in
-    let fits = not-false _ (if-none 6 _ (a .0)) in
-    let few = leb (problem .budget) budgetLimit in
-    let start = eqb (length (problem .start)) n in
-    let upper = eqb (length (problem .upper)) n in
-    let costs = eqb (length (problem .costs)) n in
-    let four = and-true-left (few && start && upper && costs) (eqb planSize n) fits in
-    let three = and-true-left (few && start && upper) costs four in
-    let two = and-true-left (few && start) upper three in
-    let startSized = eqb-true (length (problem .start)) n (and-true-right few start two) in
-    let upperSized = eqb-true (length (problem .upper)) n (and-true-right (few && start) upper three) in
+    let sizes = problem-sized n problem planSize (not-false _ (if-none 6 _ (a .0))) in
+    let same = sizes .start ∙ sym (sizes .upper) in
     let all = where-none 26 (length (problem .start)) (isMisplanned problem) .0 (b .0) in
     record {
-      few = leb-true (problem .budget) budgetLimit (and-true-left few start two);
-      start = startSized;
-      upper = upperSized;
-      costs = eqb-true (length (problem .costs)) n (and-true-right (few && start && upper) costs four);
-      room = eqb-true planSize n (and-true-right (few && start && upper && costs) (eqb planSize n) fits);
+      sized = sizes;
       limited = each-within costLimit (padded-within (past-where 27 costLimit (problem .costs) (c .0)));
-      bounded = each-within boundLimit (padded-within (upper-within problem (startSized ∙ sym upperSized) all));
-      begins = start-feasible problem (startSized ∙ sym upperSized) all;
+      bounded = each-within boundLimit (padded-within (upper-within problem same all));
+      begins = start-feasible problem same all;
     }
