@@ -202,7 +202,7 @@ closed-stays {generators} {sent} e s k =
     (each_from generators [] ((where-none 11 (length generators) (λ p. leaves_generators generators sent (get_or generators p []))).0 e))
 
 -- 23: the image of a generator is the combination that is sent for it
-in-images : (generators : List Vector) {sent : List Exchange} (s : Exchange) (g : Vector) → Memᴰ s sent → Memᴰ g generators → Memᴰ (exchanged s g) (sent_images generators sent)
+in-images : (generators : List Vector) (s : Exchange) (g : Vector) {sent : List Exchange} → Memᴰ s sent → Memᴰ g generators → Memᴰ (exchanged s g) (sent_images generators sent)
 unfolding sent_images
 in-images generators s g (Memᴰ.head {x = t} {xs = sent} e) k =
     Memᴰ.append_left (sent_images generators sent) (subst (λ (r : Exchange). Memᴰ (exchanged s g) (map (exchanged r) generators)) e (mem-map (exchanged s) generators k))

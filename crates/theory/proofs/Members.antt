@@ -34,6 +34,7 @@ each_append each_nil k = k
 each_append (each-cons h t) k = each-cons h (each_append t k)
 
 pub each_member : {A : Type 0} {P : A → Type 0} {x : A} {xs : List A} → Each P xs → Memᴰ x xs → P x
+each_member {A = A} {P = P} each_nil k = elim k [ ]
 each_member {P = P} (each-cons h t) (Memᴰ.head e) = subst P (sym e) h
 each_member (each-cons h t) (Memᴰ.tail m) = each_member t m
 
@@ -154,7 +155,7 @@ module _ {A : Type 0} (test : A → Bool) where
           pick (inl e) = (Memᴰ.head e, ap test e ∙ q)
           pick (inr l) = deeper (again l)
 
-  pub to-select : {xs : List A} (y : A) → Memᴰ y xs → test y ≡ true → Memᴰ y (select test xs)
+  pub to-select : (y : A) {xs : List A} → Memᴰ y xs → test y ≡ true → Memᴰ y (select test xs)
   unfolding select
   to-select y (Memᴰ.head {x = x} {xs = xs} e) q = subst (λ (b : Bool). Memᴰ y (cond b (x ∷ select test xs) (select test xs))) (sym (ap test (sym e) ∙ q)) (Memᴰ.head e)
   to-select y (Memᴰ.tail {x = x} {xs = xs} k) q = go (test x) (to-select y k q)
