@@ -7,7 +7,7 @@ use Rattle.definitions.specs.Group.{Exchange}
 use Rattle.definitions.specs.Lent.{Order, filled, table_of}
 use Rattle.definitions.specs.Refusals.{admission_fault, cells_fault, first_fault, numbers_fault, size_fault, symmetry_fault}
 use Rattle.theory.proofs.Sizes.{OrderSized}
-use Rattle.vectors.specs.Areas.{Lent, sent_order}
+use Rattle.vectors.specs.Areas.{Lent, LentMut, sent_order}
 use Rattle.admission.specs.declared.Admission.{Admission}
 use Rattle.admission.specs.declared.Admission.TheVariants.{Members, Refused}
 
@@ -33,7 +33,7 @@ pub record Tabled (size : ℕ) (fault : Fault) (table : List Exchange) (group : 
   pub held : fault ≡ None → group ≡ filled 0 size (concat table)
 
 -- 10, and 11 or 23, of the order that is sent, and its table in the group area
-abbrev pub Tabulates : (n : ℕ) (generators : Lent ℤ) (exchanges : Lent ℕ) (images : Lent ℤ) (group : Lent ℕ)
+abbrev pub Tabulates : (n : ℕ) (generators : Lent ℤ) (exchanges : Lent ℕ) (images : Lent ℤ) (group : LentMut ℕ)
     (r : Admission) → Type 0
 Tabulates n generators exchanges images group r =
     let order = sent_order n generators exchanges images in
@@ -42,7 +42,7 @@ Tabulates n generators exchanges images group r =
 
 -- 5 to 11 and 23 of the order that is sent, and its table in the group area
 abbrev pub Admits : (n : ℕ) (generators : Lent ℤ) (exchanges : Lent ℕ) (images : Lent ℤ) (fits : Bool)
-    (group : Lent ℕ) (r : Admission) → Type 0
+    (group : LentMut ℕ) (r : Admission) → Type 0
 Admits n generators exchanges images fits group r =
     let order = sent_order n generators exchanges images in
     let size = length group.entry.now in

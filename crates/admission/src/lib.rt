@@ -1,5 +1,6 @@
 // The tests with which every call begins, 5 to 11 and 23, and the table of the group in its area (Specification 7.1 to
 // 7.3).
+#![tactic(auto)]
 ghost use Rattle.std.specs.Prelude.{◌≡◌, ◌/◌, ◌≤◌, min, []};
 ghost use Rattle.definitions.specs.Limits.{cells};
 ghost use Rattle.definitions.specs.Lent.{order_of};
@@ -14,7 +15,7 @@ use group::{Built, exchanges_fault, group_table};
 use refusals::{cells_fault, first_met, leaving_fault, past_fault, size_fault, zero_fault};
 
 // What the tests find: the number of members of the group, or the number and the place of a refusal.
-#[derive(Drop)]
+#[derive(Clone, Copy)]
 pub enum Admission {
     Members(usize),
     Refused { number: u64, place: u64 },

@@ -3,7 +3,7 @@ use Rattle.std.specs.Prelude.{◌≡◌, List, Bool, ℕ, ◌+◌, ◌-◌, leng
 use Rattle.std.proofs.Math.Seq.{paste}
 use Rattle.definitions.specs.Lists.{if◌then◌else◌}
 use Rattle.definitions.specs.Lent.{filled}
-use Rattle.vectors.specs.Areas.{Lent}
+use Rattle.vectors.specs.Areas.{LentMut}
 
 -- ---- a whole text
 
@@ -21,7 +21,7 @@ pub record Laid (n : ℕ) (area : List ℕ) (end : ℕ) (text : List ℕ) : Type
   pub place : end ≡ end_of n text
 
 -- .. a lent area
-abbrev pub LaidIn : (area : Lent ℕ) (end : ℕ) (text : List ℕ) → Type 0
+abbrev pub LaidIn : (area : LentMut ℕ) (end : ℕ) (text : List ℕ) → Type 0
 LaidIn area end text = Laid (length area.entry.now) area.exit.now end text
 
 -- ---- a text behind others
@@ -45,5 +45,5 @@ pub record Wrote (entry exit : List ℕ) (at end : ℕ) (text : List ℕ) : Type
   pub place : end ≡ behind (length entry) at text
 
 -- .. of a lent area
-abbrev pub WroteIn : (area : Lent ℕ) (at end : ℕ) (text : List ℕ) → Type 0
+abbrev pub WroteIn : (area : LentMut ℕ) (at end : ℕ) (text : List ℕ) → Type 0
 WroteIn area at end text = Wrote area.entry.now area.exit.now at end text

@@ -135,7 +135,7 @@ module _ {c e : ℤ} (small : Small c e) where
   -- it is read as what it is
   product_is : product c e ≡ c *ℤ e
   product_is =
-      ap₂ ◌*ℤ◌ (to_z-of_z (fits coefficient_limit c small.coefficient (omega arith)))
+      ap₂ ◌*ℤ◌ (to_z-of_z {w = w64} (fits coefficient_limit c small.coefficient (omega arith)))
       (wide_read e (fits entry_limit e small.entry (omega arith)))
 
   -- it fits

@@ -11,7 +11,7 @@ use Rattle.definitions.specs.Refusals.{Outcome, accepted, refused}
 use Rattle.definitions.specs.Calls.{CertifiedListing, certified_listing_of}
 use Rattle.theory.proofs.Members.{Each}
 use Rattle.theory.proofs.Bounds.{Within}
-use Rattle.vectors.specs.Areas.{Lent}
+use Rattle.vectors.specs.Areas.{Lent, LentMut}
 use Rattle.reduction.specs.declared.Extent.{Extent}
 use Rattle.reduction.specs.declared.Shape.{Shape}
 use Rattle.reduction.specs.Areas.{sequences_in}
@@ -51,7 +51,7 @@ pub record CertifiedFinds (n list_size group_size coefficient_size : ℕ) (o : O
 
 -- .. in lent areas: what is due for their sizes
 abbrev pub CertifiedFindsIn : (n : ℕ) (due : (list_size group_size coefficient_size : ℕ) → Outcome CertifiedListing)
-    (list : Lent ℤ) (group : Lent ℕ) (coefficients : Lent ℤ) (r : Answer) → Type 0
+    (list : LentMut ℤ) (group : LentMut ℕ) (coefficients : LentMut ℤ) (r : Answer) → Type 0
 CertifiedFindsIn n due list group coefficients r =
     let list_size = length list.entry.now in
     let group_size = length group.entry.now in
@@ -60,13 +60,14 @@ CertifiedFindsIn n due list group coefficients r =
     list.exit.now group.exit.now coefficients.exit.now r
 
 -- what is listed with the table in the group area was found
-abbrev pub CertifiedCompletes : Shape → (generators list : Lent ℤ) (group : Lent ℕ) (coefficients : Lent ℤ)
-    (r : Answer) → Type 0
+abbrev pub CertifiedCompletes : Shape → (generators : Lent ℤ) (list : LentMut ℤ) (group : Lent ℕ)
+    (coefficients : LentMut ℤ) (r : Answer) → Type 0
 CertifiedCompletes shape generators list group coefficients r =
     let table = sequences_in shape group.entry.now in
-    CertifiedFindsIn shape.n
-    (λ list_size group_size coefficient_size. certified_with shape.n list_size table generators.entry.now)
-    list group coefficients r
+    let list_size = length list.entry.now in
+    CertifiedFinds shape.n list_size (length group.entry.now) (length coefficients.entry.now)
+    (certified_with shape.n list_size table generators.entry.now)
+    list.exit.now group.exit.now coefficients.exit.now r
 
 -- k stored rows with their marks, and their coefficients, m to a row
 pub record RowsAndCoefficients (extent : Extent) (m : ℕ) (group : List ℕ) (list : List ℤ) (marks keys : List ℕ)

@@ -6,7 +6,7 @@ use Rattle.definitions.specs.Lists.{concat}
 use Rattle.definitions.specs.Lent.{Order, filled, numbers_of}
 use Rattle.definitions.specs.Calls.{CertifiedListing, certified_call}
 use Rattle.definitions.specs.Demands.{CertifiedKept}
-use Rattle.vectors.specs.Areas.{Lent, sent_order}
+use Rattle.vectors.specs.Areas.{Lent, LentMut, sent_order}
 
 -- the list area holds the plain call's list, the group area the table, and the coefficients area a coefficient for each
 -- row and generator, with which the row is the combination of the generators; with them the list is passed by Check
@@ -38,8 +38,8 @@ pub record CertifiedPromise (order : Order) (list_size group_size coefficient_si
   pub refused : (number place : ℕ) → answer ≡ Refused number place → CertifiedZero list group coefficients
 
 -- .. of the order that is sent, in the areas that are lent
-abbrev pub KeepsCertified : (n : ℕ) (generators : Lent ℤ) (exchanges : Lent ℕ) (images list : Lent ℤ) (group : Lent ℕ)
-    (coefficients : Lent ℤ) (answer : Answer) → Type 0
+abbrev pub KeepsCertified : (n : ℕ) (generators : Lent ℤ) (exchanges : Lent ℕ) (images : Lent ℤ) (list : LentMut ℤ) (group : LentMut ℕ)
+    (coefficients : LentMut ℤ) (answer : Answer) → Type 0
 KeepsCertified n generators exchanges images list group coefficients answer =
     let order = sent_order n generators exchanges images in
     let list_size = length list.entry.now in

@@ -1,1 +1,2 @@
 // Theorems over the definitions of lists with coefficients: lemma files in proofs/, no code.
+#![tactic(auto)]

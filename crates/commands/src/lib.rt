@@ -1,11 +1,12 @@
 // The commands of an order file and the numbers of their operands (Specification 8.1).
+#![tactic(auto)]
 ghost use Rattle.std.specs.Prelude.{◌≡◌, ◌+◌, ◌≤◌, ◌<◌, ◌^◌, length};
 ghost use Rattle.definitions.specs.Limits.{cells, generator_limit};
 ghost use Rattle.commands.specs.Commands.{behind, command_at, code_of, operands_of, width_of};
 ghost use Rattle.commands.specs.Decode.{byte_at, signed_of, little_at, short_at, word_at};
 
 // A command, with the offset where its operands start.
-#[derive(Drop)]
+#[derive(Clone, Copy)]
 pub enum Command {
     Size(usize),
     Generator(usize),
@@ -18,7 +19,7 @@ pub enum Command {
 }
 
 // What stands where a command is due: a command, another byte, or the end of the order.
-#[derive(Drop)]
+#[derive(Clone, Copy)]
 pub enum Reading {
     Known(Command),
     Unknown,

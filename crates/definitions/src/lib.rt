@@ -1,7 +1,8 @@
 // The answers of the three services. What each call answers, for every input, is defined in specs/.
+#![tactic(auto)]
 
 // What a call answers (Specification 1.1). Refused: the number and the place of the table of refusals.
-#[derive(Drop)]
+#[derive(Clone, Copy)]
 pub enum Answer {
     Moves {
         rows: u64,
@@ -27,7 +28,7 @@ pub enum Answer {
 }
 
 // How an order of a session ends (Specification 3.8): as a List does, or with sums left to try.
-#[derive(Drop)]
+#[derive(Clone, Copy)]
 pub enum Ending {
     Moves {
         rows: u64,
@@ -45,14 +46,14 @@ pub enum Ending {
 }
 
 // What a session answers: how order 0 and how order 1 ends.
-#[derive(Drop)]
+#[derive(Clone, Copy)]
 pub struct Session {
     pub first: Ending,
     pub second: Ending,
 }
 
 // What a run of draws answers (Specification 3.9): the number of its records and the counts of its List, or a refusal.
-#[derive(Drop)]
+#[derive(Clone, Copy)]
 pub enum Run {
     Answered {
         records: u64,
@@ -68,7 +69,7 @@ pub enum Run {
 }
 
 // A record of a run, as it is sent: the row, the position and the sign of a listed image.
-#[derive(Drop)]
+#[derive(Clone, Copy)]
 pub struct Draw {
     pub row: i32,
     pub position: i32,
@@ -76,7 +77,7 @@ pub struct Draw {
 }
 
 // What answer rows show: tables of n cells, the last `width` records, and one chosen cell, from 1.
-#[derive(Drop)]
+#[derive(Clone, Copy)]
 pub struct View {
     pub n: usize,
     pub width: usize,
@@ -85,7 +86,7 @@ pub struct View {
 
 // What a search for the best plan answers (Specification 3.10): that its plan is a cheapest one, or that the budget is
 // spent, with the distance bound; the steps that it took, and the counts of its List; or a refusal.
-#[derive(Drop)]
+#[derive(Clone, Copy)]
 pub enum Planned {
     Cheapest {
         steps: u64,
@@ -109,14 +110,14 @@ pub enum Planned {
 }
 
 // The upper bounds and the costs of the cells of a plan.
-#[derive(Drop)]
+#[derive(Clone, Copy)]
 pub struct Terms {
     pub upper: [i32; limits::CELLS],
     pub costs: [i32; limits::CELLS],
 }
 
 // What a test finds: nothing, or the number and the place of a refusal.
-#[derive(Drop)]
+#[derive(Clone, Copy)]
 pub enum Fault {
     None,
     At { number: u64, place: u64 },

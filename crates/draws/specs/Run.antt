@@ -4,7 +4,7 @@ use Rattle.definitions.specs.declared.View.{View}
 use Rattle.definitions.specs.Lists.{concat, range}
 use Rattle.definitions.specs.Vector.{Vector, padded}
 use Rattle.definitions.specs.Window.{Visit, answer_row, answer_rows, answer_width, draws_of, last_of, visits}
-use Rattle.vectors.specs.Areas.{Lent}
+use Rattle.vectors.specs.Areas.{Lent, LentMut}
 use Rattle.reduction.specs.declared.Extent.{Extent}
 use Rattle.figures.specs.Window.{Counted, Spans, row_in, values_in}
 use Rattle.draws.specs.declared.Figures.{Figures}
@@ -44,7 +44,7 @@ pub record Ran (view : View) (due : List Visit) (answers : List ℤ) (done : ℕ
   pub rows : take (done * answer_width view.n) answers ≡ concat (answer_rows view [] due)
 
 -- .. in lent areas
-abbrev pub RanIn : View → Extent → (start : Vector) (records list : Lent ℤ) (group : Lent ℕ) (answers : Lent ℤ)
+abbrev pub RanIn : View → Extent → (start : Vector) (records list : Lent ℤ) (group : Lent ℕ) (answers : LentMut ℤ)
     (done : ℕ) → Type 0
 RanIn view extent start records list group answers done =
     Ran view

@@ -1,5 +1,6 @@
 // The records of a run of draws: each is tested and added to a contingency table, and has an answer row in a lent area
 // (Specification 3.9).
+#![tactic(auto)]
 ghost use Rattle.std.specs.Prelude.{◌≡◌, true, [], ◌∷◌, ◌++◌, suc, ◌+◌, ◌/◌, ◌≤◌, ◌<◌, pos, length, get_or, take};
 ghost use Rattle.definitions.specs.Limits.{cells, record_width, window_limit};
 ghost use Rattle.definitions.specs.Window.{answer_width, chain_fault, chain_fits, draw_of, drawn_image, draws_of};
@@ -19,14 +20,14 @@ use refusals::whole_rows;
 use vectors::{load, magnitude, negative, plus, store};
 
 // Whether a record was drawn, and the contingency table that it reached.
-#[derive(Drop)]
+#[derive(Clone, Copy)]
 struct Drawn {
     fits: bool,
     table: [i32; CELLS],
 }
 
 // The figures of a window.
-#[derive(Drop)]
+#[derive(Clone, Copy)]
 struct Figures {
     extremes: Extremes,
     different: usize,

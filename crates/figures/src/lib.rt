@@ -1,6 +1,7 @@
 // The figures of a window: the smallest and the largest value of a chosen cell, and the number of different rows
 // (Specification 3.9). They are kept from record to record, and the window is read afresh only where the value that
 // leaves it was the smallest or the largest.
+#![tactic(auto)]
 ghost use Rattle.std.specs.Prelude.{◌≡◌, cond, [], ◌∷◌, ◌++◌, suc, ◌+◌, ◌-◌, ◌≤◌, ◌<◌, ◌/◌, eqb, length, get_or, set};
 ghost use Rattle.definitions.specs.Limits.{record_width, window_limit};
 ghost use Rattle.definitions.specs.Window.{larger, lesser};
@@ -12,7 +13,7 @@ use definitions::limits::{FIGURES_WIDTH, RECORD_WIDTH};
 use vectors::magnitude;
 
 // The smallest and the largest of some numbers.
-#[derive(Drop)]
+#[derive(Clone, Copy)]
 pub struct Extremes {
     pub smallest: i32,
     pub largest: i32,

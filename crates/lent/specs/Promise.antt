@@ -13,7 +13,7 @@ use Rattle.definitions.specs.Calls.{ListEnd, CertifiedEnd, SplitEnd, CheckEnd}
 use Rattle.definitions.specs.Window.{Chain, Room, WindowEnd}
 use Rattle.definitions.specs.Plan.{PlanEnd, PlanRoom, Problem}
 use Rattle.definitions.specs.Demands.{RulesKept, Whole}
-use Rattle.vectors.specs.Areas.{Lent, sent_order}
+use Rattle.vectors.specs.Areas.{Lent, LentMut, sent_order}
 use Rattle.moves.specs.Promise.{CheckPassed, ListAccepted, ListZero, PastEntries, SplitAccepted, SplitZero}
 use Rattle.certified_lists.specs.Promise.{CertifiedAccepted, CertifiedZero}
 use Rattle.sessions.specs.Promise.{SessionPromise}
@@ -55,8 +55,8 @@ pub record ListLent (order : Order) (result : ℤ) (list : List ℤ) (group coun
   pub refused : (k : ℕ) → result ≡ negsuc k → ListZero list group × CountsZero counts
 
 -- .. of the order that is sent, in the areas that are lent
-abbrev pub KeepsLentList : (n : ℕ) (generators : Lent ℤ) (exchanges : Lent ℕ) (images list : Lent ℤ)
-    (group counts : Lent ℕ) (result : ℤ) → Type 0
+abbrev pub KeepsLentList : (n : ℕ) (generators : Lent ℤ) (exchanges : Lent ℕ) (images : Lent ℤ) (list : LentMut ℤ)
+    (group counts : LentMut ℕ) (result : ℤ) → Type 0
 KeepsLentList n generators exchanges images list group counts result =
     let order = sent_order n generators exchanges images in
     ListLent order result list.exit.now group.exit.now counts.exit.now
@@ -87,8 +87,8 @@ pub record CertifiedLent (order : Order) (result : ℤ) (list : List ℤ) (group
   pub refused : (k : ℕ) → result ≡ negsuc k → CertifiedZero list group coefficients × CountsZero counts
 
 -- .. of the order that is sent, in the areas that are lent
-abbrev pub KeepsLentCertified : (n : ℕ) (generators : Lent ℤ) (exchanges : Lent ℕ) (images list : Lent ℤ)
-    (group : Lent ℕ) (coefficients : Lent ℤ) (counts : Lent ℕ) (result : ℤ) → Type 0
+abbrev pub KeepsLentCertified : (n : ℕ) (generators : Lent ℤ) (exchanges : Lent ℕ) (images : Lent ℤ) (list : LentMut ℤ)
+    (group : LentMut ℕ) (coefficients : LentMut ℤ) (counts : LentMut ℕ) (result : ℤ) → Type 0
 KeepsLentCertified n generators exchanges images list group coefficients counts result =
     let order = sent_order n generators exchanges images in
     CertifiedLent order result list.exit.now group.exit.now coefficients.exit.now counts.exit.now
@@ -125,8 +125,8 @@ pub record SplitLent (order : Order) (vector : List ℤ) (result : ℤ) (list : 
       → (result ≡ refusal_of 15 0) ↔ Outside order vector
 
 -- .. of the order and the vector that are sent, in the areas that are lent
-abbrev pub KeepsLentSplit : (n : ℕ) (generators : Lent ℤ) (exchanges : Lent ℕ) (images vector list : Lent ℤ)
-    (group : Lent ℕ) (pieces : Lent ℤ) (counts : Lent ℕ) (result : ℤ) → Type 0
+abbrev pub KeepsLentSplit : (n : ℕ) (generators : Lent ℤ) (exchanges : Lent ℕ) (images vector : Lent ℤ) (list : LentMut ℤ)
+    (group : LentMut ℕ) (pieces : LentMut ℤ) (counts : LentMut ℕ) (result : ℤ) → Type 0
 KeepsLentSplit n generators exchanges images vector list group pieces counts result =
     let order = sent_order n generators exchanges images in
     SplitLent order vector.entry.now result
@@ -161,7 +161,7 @@ pub record CheckLent (order : Order) (rows coefficients : List ℤ) (result : �
 
 -- .. of the order and the list that are sent, in the areas that are lent
 abbrev pub KeepsLentCheck : (n : ℕ) (generators : Lent ℤ) (exchanges : Lent ℕ) (images rows coefficients : Lent ℤ)
-    (group counts : Lent ℕ) (result : ℤ) → Type 0
+    (group counts : LentMut ℕ) (result : ℤ) → Type 0
 KeepsLentCheck n generators exchanges images rows coefficients group counts result =
     let order = sent_order n generators exchanges images in
     CheckLent order rows.entry.now coefficients.entry.now result group.exit.now counts.exit.now
@@ -188,7 +188,8 @@ pub record SessionLent (first second : Order) (steps : List ℕ) (result : ℤ) 
   pub short : length counts < session_size → SessionShort result list group counts
 
 -- .. of the orders and the steps that are sent, in the areas that are lent
-abbrev pub KeepsLentSession : (first second : Order) (list : Lent ℤ) (group steps counts : Lent ℕ) (result : ℤ) → Type 0
+abbrev pub KeepsLentSession : (first second : Order) (list : LentMut ℤ) (group : LentMut ℕ) (steps : Lent ℕ)
+    (counts : LentMut ℕ) (result : ℤ) → Type 0
 KeepsLentSession first second list group steps counts result =
     SessionLent first second steps.entry.now result
     list.exit.now group.exit.now counts.exit.now
@@ -227,7 +228,7 @@ pub record WindowLent (order : Order) (chain : Chain) (result : ℤ) (list : Lis
       → WindowZero list group answers × CountsZero counts
 
 -- .. of the order and the chain that are sent, in the areas that are lent
-abbrev pub KeepsLentWindow : Order → Chain → (list : Lent ℤ) (group : Lent ℕ) (answers : Lent ℤ) (counts : Lent ℕ)
+abbrev pub KeepsLentWindow : Order → Chain → (list : LentMut ℤ) (group : LentMut ℕ) (answers : LentMut ℤ) (counts : LentMut ℕ)
     (result : ℤ) → Type 0
 KeepsLentWindow order chain list group answers counts result =
     WindowLent order chain result list.exit.now group.exit.now answers.exit.now counts.exit.now
@@ -274,7 +275,7 @@ pub record PlanLent (order : Order) (problem : Problem) (result : ℤ) (list : L
   pub refused : (k : ℕ) → result ≡ negsuc k → PlanZero list group plan × CountsZero counts
 
 -- .. of the order and the problem that are sent, in the areas that are lent
-abbrev pub KeepsLentPlan : Order → Problem → (list : Lent ℤ) (group : Lent ℕ) (plan : Lent ℤ) (counts : Lent ℕ)
+abbrev pub KeepsLentPlan : Order → Problem → (list : LentMut ℤ) (group : LentMut ℕ) (plan : LentMut ℤ) (counts : LentMut ℕ)
     (result : ℤ) → Type 0
 KeepsLentPlan order problem list group plan counts result =
     PlanLent order problem result list.exit.now group.exit.now plan.exit.now counts.exit.now

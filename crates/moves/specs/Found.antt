@@ -12,7 +12,7 @@ use Rattle.definitions.specs.Lent.{filled, vectors_of, numbers_of, list_rows, ta
 use Rattle.definitions.specs.Refusals.{Outcome, accepted, refused, first_fault, fault_if, fault_where, is_past}
 use Rattle.definitions.specs.Refusals.{rows_fault, wholeness_fault}
 use Rattle.definitions.specs.Calls.{Listing, Parts, SplitEnd, check_fault, listing_of, parts_of, split_end}
-use Rattle.vectors.specs.Areas.{Lent, sent_order}
+use Rattle.vectors.specs.Areas.{Lent, LentMut, sent_order}
 use Rattle.reduction.specs.declared.Shape.{Shape}
 use Rattle.reduction.specs.Areas.{rows_at, sequences_in, Area, Table}
 use Rattle.completion.specs.Machine.{Admissible}
@@ -49,7 +49,7 @@ pub record Finds (n list_size group_size : ℕ) (o : Outcome Listing) (list : Li
   pub group_holds : (found : Listing) → o ≡ accepted found → group ≡ filled 0 group_size (concat found.table)
 
 -- .. in lent areas: what is due for their sizes
-abbrev pub FindsIn : (n : ℕ) (due : (list_size group_size : ℕ) → Outcome Listing) (list : Lent ℤ) (group : Lent ℕ)
+abbrev pub FindsIn : (n : ℕ) (due : (list_size group_size : ℕ) → Outcome Listing) (list : LentMut ℤ) (group : LentMut ℕ)
     (r : Listed) → Type 0
 FindsIn n due list group r =
     let list_size = length list.entry.now in
@@ -57,11 +57,12 @@ FindsIn n due list group r =
     Finds n list_size group_size (due list_size group_size) list.exit.now group.exit.now r
 
 -- what is listed with the table in the group area was found
-abbrev pub Completes : Shape → (generators list : Lent ℤ) (group : Lent ℕ) (r : Listed) → Type 0
+abbrev pub Completes : Shape → (generators : Lent ℤ) (list : LentMut ℤ) (group : Lent ℕ) (r : Listed) → Type 0
 Completes shape generators list group r =
     let table = sequences_in shape group.entry.now in
-    FindsIn shape.n (λ list_size group_size. listing_with shape.n list_size table generators.entry.now)
-    list group r
+    let list_size = length list.entry.now in
+    Finds shape.n list_size (length group.entry.now)
+    (listing_with shape.n list_size table generators.entry.now) list.exit.now group.exit.now r
 
 -- ---- Split
 
@@ -84,7 +85,7 @@ listing_in n found list group = record {
 }
 
 -- 14 to 16 of a vector, with such areas and a pieces area
-abbrev pub parts_in : (n : ℕ) → Numbers → (vector list : Lent ℤ) (group : Lent ℕ) (pieces : Lent ℤ) → Outcome Parts
+abbrev pub parts_in : (n : ℕ) → Numbers → (vector : Lent ℤ) (list : LentMut ℤ) (group : LentMut ℕ) (pieces : LentMut ℤ) → Outcome Parts
 parts_in n found vector list group pieces =
     let listed = listing_in n found list.entry.now group.entry.now in
     parts_of vector.entry.now (length pieces.entry.now) (accepted listed)
@@ -108,7 +109,7 @@ pub record SplitEnds (due : SplitEnd) (answer : Answer) (list : List ℤ) (group
   pub pieces_holds : pieces ≡ due.pieces
 
 -- .. in lent areas, as this outcome ends
-abbrev pub SplitEndsIn : (n : ℕ) → Outcome Parts → (list : Lent ℤ) (group : Lent ℕ) (pieces : Lent ℤ)
+abbrev pub SplitEndsIn : (n : ℕ) → Outcome Parts → (list : LentMut ℤ) (group : LentMut ℕ) (pieces : LentMut ℤ)
     (answer : Answer) → Type 0
 SplitEndsIn n outcome list group pieces answer =
     let due = split_end n (length list.entry.now) (length group.entry.now) (length pieces.entry.now) in
@@ -150,7 +151,7 @@ pub record Checks (rows size : ℕ) (table : List Exchange) (fault : Fault) (gro
 
 -- .. the tests of a Check
 abbrev pub ChecksIn : (n : ℕ) (generators : Lent ℤ) (exchanges : Lent ℕ) (images rows coefficients : Lent ℤ)
-    (group : Lent ℕ) (r : Checked) → Type 0
+    (group : LentMut ℕ) (r : Checked) → Type 0
 ChecksIn n generators exchanges images rows coefficients group r =
     let order = sent_order n generators exchanges images in
     let size = length group.entry.now in

@@ -13,7 +13,7 @@ use Rattle.definitions.specs.Lent.{Order, exchanges_of, filled, generators_of, n
 use Rattle.definitions.specs.Refusals.{accepted, cells_fault, fault_where, first_fault, is_past, split_size_fault}
 use Rattle.definitions.specs.Calls.{Listing, Parts, listing, list_call, split_call, check_call}
 use Rattle.definitions.specs.Demands.{ConformalSum, IsTable, ListKept, RulesKept, SplitKept, Whole}
-use Rattle.vectors.specs.Areas.{Lent, sent_order}
+use Rattle.vectors.specs.Areas.{Lent, LentMut, sent_order}
 
 -- ---- List
 
@@ -40,7 +40,7 @@ pub record ListPromise (order : Order) (list_size group_size : ℕ) (answer : An
   pub refused : (number place : ℕ) → answer ≡ Refused number place → ListZero list group
 
 -- .. of the order that is sent, in the areas that are lent
-abbrev pub KeepsList : (n : ℕ) (generators : Lent ℤ) (exchanges : Lent ℕ) (images list : Lent ℤ) (group : Lent ℕ)
+abbrev pub KeepsList : (n : ℕ) (generators : Lent ℤ) (exchanges : Lent ℕ) (images : Lent ℤ) (list : LentMut ℤ) (group : LentMut ℕ)
     (answer : Answer) → Type 0
 KeepsList n generators exchanges images list group answer =
     let order = sent_order n generators exchanges images in
@@ -93,8 +93,8 @@ pub record SplitPromise (order : Order) (vector : List ℤ) (list_size group_siz
       → (answer ≡ Refused 15 0) ↔ (¬ (InLattice (generators_of order) (padded vector)))
 
 -- .. of the order and the vector that are sent, in the areas that are lent
-abbrev pub KeepsSplit : (n : ℕ) (generators : Lent ℤ) (exchanges : Lent ℕ) (images vector list : Lent ℤ)
-    (group : Lent ℕ) (pieces : Lent ℤ) (answer : Answer) → Type 0
+abbrev pub KeepsSplit : (n : ℕ) (generators : Lent ℤ) (exchanges : Lent ℕ) (images vector : Lent ℤ) (list : LentMut ℤ)
+    (group : LentMut ℕ) (pieces : LentMut ℤ) (answer : Answer) → Type 0
 KeepsSplit n generators exchanges images vector list group pieces answer =
     let order = sent_order n generators exchanges images in
     SplitPromise order vector.entry.now
@@ -139,7 +139,7 @@ pub record CheckPromise (order : Order) (rows coefficients : List ℤ) (group_si
 
 -- .. of the order and the list that are sent, in the group area that is lent
 abbrev pub KeepsCheck : (n : ℕ) (generators : Lent ℤ) (exchanges : Lent ℕ) (images rows coefficients : Lent ℤ)
-    (group : Lent ℕ) (answer : Answer) → Type 0
+    (group : LentMut ℕ) (answer : Answer) → Type 0
 KeepsCheck n generators exchanges images rows coefficients group answer =
     let order = sent_order n generators exchanges images in
     CheckPromise order rows.entry.now coefficients.entry.now (length group.entry.now) answer

@@ -1,4 +1,5 @@
 // The lent calls (Specification 1.1): List, Split and Check.
+#![tactic(auto)]
 ghost use Rattle.std.specs.Prelude.{◌≡◌, [], ◌∷◌, ◌*◌, ◌≤◌, length};
 ghost use Rattle.definitions.specs.Limits.{group_limit, list_limit};
 ghost use Rattle.definitions.specs.Refusals.{cells_fault, first_fault, refused, split_size_fault};
@@ -24,7 +25,7 @@ pub const MARKS: usize = LIST_LIMIT * GROUP_LIMIT;
 pub const KEYS: usize = 8_192;
 
 // What a List finds: the numbers of its answer.
-#[derive(Drop)]
+#[derive(Clone, Copy)]
 pub enum Listed {
     Found {
         rows: u64,
@@ -39,7 +40,7 @@ pub enum Listed {
 }
 
 // The numbers of an accepted List.
-#[derive(Drop)]
+#[derive(Clone, Copy)]
 pub struct Numbers {
     pub rows: u64,
     pub members: u64,
@@ -48,7 +49,7 @@ pub struct Numbers {
 }
 
 // What a Check finds: the numbers of its answer.
-#[derive(Drop)]
+#[derive(Clone, Copy)]
 enum Checked {
     Passed { rows: u64, sums: u64 },
     Refused { number: u64, place: u64 },

@@ -1,7 +1,7 @@
 -- The walk over the commands of an order that fills an area with the numbers of one kind. Assumes nothing.
 use Rattle.std.specs.Prelude.{◌≡◌, ◌⊎◌, List, ◌++◌, ℕ, ◌+◌, ◌*◌, ◌≤◌, ℤ, length, drop}
 use Rattle.std.proofs.Math.Seq.{paste}
-use Rattle.vectors.specs.Areas.{Lent}
+use Rattle.vectors.specs.Areas.{LentMut}
 use Rattle.commands.specs.declared.Command.{Command}
 use Rattle.commands.specs.Commands.{exchange_code, code_of, operands_of, width_of}
 use Rattle.orders.specs.declared.Counts.{Counts}
@@ -42,9 +42,9 @@ pub record Taken {A : Type 0} (numbers : List A) (filled : ℕ) (before after : 
   pub held : after ≡ paste before filled numbers (length numbers)
 
 -- .. of a lent area
-abbrev pub TakenIn : {A : Type 0} (numbers : List A) (filled : ℕ) (area : Lent A) (r : ℕ) → Type 0
+abbrev pub TakenIn : {A : Type 0} (numbers : List A) (filled : ℕ) (area : LentMut A) (r : ℕ) → Type 0
 TakenIn numbers filled area r = Taken numbers filled area.entry.now area.exit.now r
 
 -- the numbers stand at the start of an area, and the rest of it is as before
-abbrev pub Filled : {A : Type 0} (numbers : List A) (area : Lent A) → Type 0
+abbrev pub Filled : {A : Type 0} (numbers : List A) (area : LentMut A) → Type 0
 Filled numbers area = area.exit.now ≡ numbers ++ drop (length numbers) area.entry.now

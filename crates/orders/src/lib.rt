@@ -1,4 +1,5 @@
 // The scan of an order file (Specification 8.2 and 8.3).
+#![tactic(auto)]
 ghost use Rattle.std.specs.Prelude.{◌≡◌, ◌+◌, ◌≤◌, ◌<◌, length};
 ghost use Rattle.commands.specs.Commands.{operands_of, width_of};
 ghost use Rattle.orders.specs.Grammar.{counted_by, is_image_due, may_close, may_stand, one_if, phase_after, too_many};
@@ -14,7 +15,7 @@ use definitions::limits::{BARE_LIMIT, CELLS, EXCHANGE_LIMIT, GENERATOR_LIMIT, LI
 pub mod operands;
 
 // The three services.
-#[derive(Drop)]
+#[derive(Clone, Copy)]
 pub enum Service {
     List,
     Split,
@@ -22,7 +23,7 @@ pub enum Service {
 }
 
 // What was read last: nothing, SIZE or GENERATOR, EXCHANGE, IMAGE, VECTOR, ROW, COEFFICIENTS or END.
-#[derive(Drop)]
+#[derive(Clone, Copy)]
 enum Phase {
     Empty,
     Generators,
@@ -35,7 +36,7 @@ enum Phase {
 }
 
 // What an order has: the cells that SIZE gives, and the commands that are counted.
-#[derive(Drop)]
+#[derive(Clone, Copy)]
 pub struct Counts {
     pub cells: usize,
     pub generators: usize,
@@ -45,7 +46,7 @@ pub struct Counts {
 }
 
 // How far a scan has come: the offset where a command is due, the phase, and what was counted.
-#[derive(Drop)]
+#[derive(Clone, Copy)]
 struct Progress {
     at: usize,
     phase: Phase,
@@ -53,14 +54,14 @@ struct Progress {
 }
 
 // The counts of an accepted order, or the number and the place of a refusal.
-#[derive(Drop)]
+#[derive(Clone, Copy)]
 pub enum Scanned {
     Counted(Counts),
     Refused { number: u64, place: u64 },
 }
 
 // One command of the scan: the scan goes on, or it is over.
-#[derive(Drop)]
+#[derive(Clone, Copy)]
 enum Step {
     Next(Progress),
     Stop(Scanned),

@@ -15,7 +15,7 @@ use commands::{
 };
 
 // The commands with a byte, and the signed numbers of each: `count` of them, of `size` bytes each.
-#[derive(Drop)]
+#[derive(Clone, Copy)]
 struct Kind {
     code: usize,
     size: usize,

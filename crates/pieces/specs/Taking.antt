@@ -7,7 +7,7 @@ use Rattle.definitions.specs.Vector.{Vector, negative, scale, within}
 use Rattle.definitions.specs.Split.{Image, Piece, placed_orbits, sign, splitting, times, written}
 use Rattle.definitions.specs.Lent.{filled}
 use Rattle.theory.proofs.Below.{◌⊑◌}
-use Rattle.vectors.specs.Areas.{Lent}
+use Rattle.vectors.specs.Areas.{LentMut}
 use Rattle.reduction.specs.declared.Shape.{Shape}
 use Rattle.reduction.specs.Areas.{Area, Table, rows_at, sequences_in}
 use Rattle.pieces.specs.declared.Place.{Place}
@@ -80,7 +80,7 @@ pub record Takes (images : List Image) (t : Taken) (area area' : List ℤ) (r : 
   pub lower : r.rest ⊑ t.rest
 
 -- .. written to a lent area
-abbrev pub TakesTo : (pieces : Lent ℤ) (images : List Image) (t r : Taken) → Type 0
+abbrev pub TakesTo : (pieces : LentMut ℤ) (images : List Image) (t r : Taken) → Type 0
 TakesTo pieces images t r = Takes images t pieces.entry.now pieces.exit.now r
 
 -- 4.1: all images were taken from v, and the cleared area holds the pieces as far as it has room; where it has room
@@ -93,5 +93,5 @@ pub record Splits (images : List Image) (v : Vector) (size : ℕ) (area : List �
       → area ≡ filled (pos 0) size (concat (map written (splitting images v).pieces))
 
 -- .. in a lent area
-abbrev pub SplitsTo : (pieces : Lent ℤ) (images : List Image) (v : Vector) (r : Taken) → Type 0
+abbrev pub SplitsTo : (pieces : LentMut ℤ) (images : List Image) (v : Vector) (r : Taken) → Type 0
 SplitsTo pieces images v r = Splits images v (length pieces.entry.now) pieces.exit.now r

@@ -1,5 +1,6 @@
 // The pieces of a vector: the images of the listed rows are taken from it in turn, and each piece is written to a lent
 // area (Specification 4.1).
+#![tactic(auto)]
 ghost use Rattle.std.specs.Prelude.{◌≡◌, true, [], ◌∷◌, ◌*◌, ◌≤◌, ◌<◌, pos};
 ghost use Rattle.definitions.specs.Limits.{group_limit, list_limit, split_limit};
 ghost use Rattle.definitions.specs.Vector.{minus, scale, within};
@@ -15,14 +16,14 @@ use reduction::{Shape, image_at};
 use vectors::{clear, load, negative, store, times};
 
 // What remains of a vector, and the number of pieces that were taken from it.
-#[derive(Drop)]
+#[derive(Clone, Copy)]
 pub struct Taken {
     pub rest: [i32; CELLS],
     pub count: usize,
 }
 
 // The place of an image and its negative: the row, and the position in the table.
-#[derive(Drop)]
+#[derive(Clone, Copy)]
 struct Place {
     row: usize,
     position: usize,

@@ -4,6 +4,7 @@
 // come LIST, a line for each row of the list area, and END; PLAN, the plan area in one line, and END; and GROUP with
 // the numbers of the group area. The file `stdout`, with which the check compares this, was not made by a run: its lines
 // were made from the table of the sample plans.
+#![tactic(auto)]
 ghost use Rattle.std.specs.Prelude.{◌≤◌, length};
 
 use definitions::Planned;

@@ -9,7 +9,7 @@ use Rattle.definitions.specs.Lists.{if◌then◌else◌}
 use Rattle.definitions.specs.Refusals.{accepted}
 use Rattle.definitions.specs.Calls.{Listing}
 use Rattle.definitions.specs.Plan.{PlanEnd, PlanRoom, Problem, descended_end, feasible, plan_of, problem_fault, reach}
-use Rattle.vectors.specs.Areas.{Lent}
+use Rattle.vectors.specs.Areas.{LentMut}
 use Rattle.reduction.specs.declared.Extent.{Extent}
 use Rattle.reduction.specs.Areas.{Area, Table}
 use Rattle.moves.specs.declared.Numbers.{Numbers}
@@ -25,7 +25,7 @@ pub record PlanEnds (due : PlanEnd) (answer : Planned) (list : List ℤ) (group 
   pub plan_holds : plan ≡ due.plan
 
 -- .. in lent areas
-abbrev pub PlanEndsIn : (due : PlanRoom → PlanEnd) (list : Lent ℤ) (group : Lent ℕ) (plan : Lent ℤ) (answer : Planned)
+abbrev pub PlanEndsIn : (due : PlanRoom → PlanEnd) (list : LentMut ℤ) (group : LentMut ℕ) (plan : LentMut ℤ) (answer : Planned)
     → Type 0
 PlanEndsIn due list group plan answer =
     PlanEnds (due (room_in list group plan)) answer list.exit.now group.exit.now plan.exit.now
@@ -50,15 +50,15 @@ planned_in terms found end =
     found.rows found.members found.stored found.sums
 
 -- the list that the areas hold
-abbrev pub listed_in : (n : ℕ) → Numbers → (list : Lent ℤ) (group : Lent ℕ) → Listing
+abbrev pub listed_in : (n : ℕ) → Numbers → (list : LentMut ℤ) (group : LentMut ℕ) → Listing
 listed_in n found list group = listing_in n found list.entry.now group.entry.now
 
 -- 6, 26, 27 and the descent, with a list and a table in their areas
-abbrev pub tested : (n : ℕ) → Numbers → Problem → (list : Lent ℤ) (group : Lent ℕ) (room : PlanRoom) → PlanEnd
+abbrev pub tested : (n : ℕ) → Numbers → Problem → (list : LentMut ℤ) (group : LentMut ℕ) (room : PlanRoom) → PlanEnd
 tested n found problem list group room = plan_of n problem room (accepted (listed_in n found list group))
 
 -- .. the descent alone
-abbrev pub descended : (n : ℕ) → Numbers → Problem → (list : Lent ℤ) (group : Lent ℕ) (room : PlanRoom) → PlanEnd
+abbrev pub descended : (n : ℕ) → Numbers → Problem → (list : LentMut ℤ) (group : LentMut ℕ) (room : PlanRoom) → PlanEnd
 descended n found problem list group room = descended_end n problem room (listed_in n found list group) None
 
 -- 6, 26 and 27 are not met

@@ -9,7 +9,7 @@ use Rattle.definitions.specs.Lent.{Order, filled, numbers_of}
 use Rattle.definitions.specs.Calls.{Listing}
 use Rattle.definitions.specs.Plan.{PlanRoom, Problem, plan_call}
 use Rattle.definitions.specs.Demands.{Attainable, CheaperPlan, ListKept, NoneCheaper, NoneCheaperBy}
-use Rattle.vectors.specs.Areas.{Lent}
+use Rattle.vectors.specs.Areas.{LentMut}
 
 -- the list area holds a whole list, sorted, and the group area the table of the group; the plan area holds a plan
 -- within its bounds that differs from the start by a lattice vector
@@ -64,7 +64,7 @@ pub record PlanPromise (order : Order) (problem : Problem) (room : PlanRoom) (an
   pub refused : (number place : ℕ) → answer ≡ Refused number place → PlanZero list group plan
 
 -- the sizes of the areas that are lent
-abbrev pub room_in : (list : Lent ℤ) (group : Lent ℕ) (plan : Lent ℤ) → PlanRoom
+abbrev pub room_in : (list : LentMut ℤ) (group : LentMut ℕ) (plan : LentMut ℤ) → PlanRoom
 room_in list group plan = record {
   list = length list.entry.now;
   group = length group.entry.now;
@@ -72,7 +72,7 @@ room_in list group plan = record {
 }
 
 -- .. of the order and the problem that are sent, in the areas that are lent
-abbrev pub KeepsPlan : Order → Problem → (list : Lent ℤ) (group : Lent ℕ) (plan : Lent ℤ) (answer : Planned) → Type 0
+abbrev pub KeepsPlan : Order → Problem → (list : LentMut ℤ) (group : LentMut ℕ) (plan : LentMut ℤ) (answer : Planned) → Type 0
 KeepsPlan order problem list group plan answer =
     PlanPromise order problem (room_in list group plan) answer
     list.exit.now group.exit.now plan.exit.now

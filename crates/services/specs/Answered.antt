@@ -5,7 +5,7 @@ use Rattle.definitions.specs.declared.Answer.TheVariants.{Moves, Split, Passed, 
 use Rattle.definitions.specs.Limits.{bare_limit, cells, exchange_limit, generator_limit}
 use Rattle.definitions.specs.Lent.{chunks, filled}
 use Rattle.theory.proofs.Refused.{place_limit}
-use Rattle.vectors.specs.Areas.{Lent}
+use Rattle.vectors.specs.Areas.{LentMut}
 use Rattle.orders.specs.declared.Service.{Service}
 use Rattle.orders.specs.declared.Counts.{Counts}
 use Rattle.orders.specs.declared.Scanned.TheVariants.{Counted as Accepted}
@@ -52,7 +52,7 @@ pub record Ends (due : CallEnd) (result : ℤ) (area : List ℕ) : Type 0 where
   pub area_holds : area ≡ due.area
 
 -- .. in a lent area, as is due for its size
-abbrev pub EndsIn : (area : Lent ℕ) (due : (size : ℕ) → CallEnd) (result : ℤ) → Type 0
+abbrev pub EndsIn : (area : LentMut ℕ) (due : (size : ℕ) → CallEnd) (result : ℤ) → Type 0
 EndsIn area due result = Ends (due (length area.entry.now)) result area.exit.now
 
 -- a refusal whose number and place can be read from the result
@@ -75,7 +75,7 @@ pub record TextIn (text : List ℕ) (size count : ℕ) (area : List ℕ) : Type 
   pub area_holds : length text ≤ size → area ≡ filled 0 size text
 
 -- .. of a lent area
-abbrev pub PrintsIn : (area : Lent ℕ) (text : List ℕ) (count : ℕ) → Type 0
+abbrev pub PrintsIn : (area : LentMut ℕ) (text : List ℕ) (count : ℕ) → Type 0
 PrintsIn area text count = TextIn text (length area.entry.now) count area.exit.now
 
 -- what is printed is promised of every input of which the first n bytes of a buffer are the first that it has room for

@@ -1,4 +1,5 @@
 // The services on order files (Specification 1.2 and 1.3): C calls, and what the programs print.
+#![tactic(auto)]
 ghost use Rattle.std.specs.Prelude.{◌≡◌, ◌*◌, ◌≤◌, ◌<◌, ◌^◌, length};
 ghost use Rattle.definitions.specs.Limits.{cells, list_limit, piece_width};
 ghost use Rattle.orders.specs.Scan.{scan_of};
@@ -44,7 +45,7 @@ pub const ORDER_BYTES: usize = ORDER_LIMIT;
 pub const ANSWER_BYTES: usize = TEXT_LIMIT;
 
 // An answer, and the numbers of each of its lines.
-#[derive(Drop)]
+#[derive(Clone, Copy)]
 struct Reply {
     answer: Answer,
     width: usize,

@@ -7,7 +7,7 @@ use Rattle.definitions.specs.Completion as Defined
 use Rattle.definitions.specs.Lent.{vectors_of}
 use Rattle.definitions.specs.Session.{Result, ending_of, half_of, result_of}
 use Rattle.theory.proofs.Steps.{steps}
-use Rattle.vectors.specs.Areas.{Lent}
+use Rattle.vectors.specs.Areas.{Lent, LentMut}
 use Rattle.reduction.specs.declared.Shape.{Shape}
 use Rattle.reduction.specs.Areas.{sequences_in}
 use Rattle.completion.specs.declared.Sizes.{Sizes}
@@ -46,7 +46,7 @@ pub record OrderEnds (n : ℕ) (result : Result) (list : List ℤ) (r : Ending) 
   pub holds : list ≡ half_of n result
 
 -- .. an order that met no test, after `count` steps, with the table in the group area
-abbrev pub EndsIn : Shape → (generators list : Lent ℤ) (table : Lent ℕ) (count : ℕ) (r : Ending) → Type 0
+abbrev pub EndsIn : Shape → (generators : Lent ℤ) (list : LentMut ℤ) (table : Lent ℕ) (count : ℕ) (r : Ending) → Type 0
 EndsIn shape generators list table count r =
     let sequences = sequences_in shape table.entry.now in
     let start = begun sequences session_rows (vectors_of shape.n generators.entry.now) in

@@ -1,4 +1,5 @@
 // One order of a session (Specification 3.8): as many sums as steps name it, and its end, on its half of the list area.
+#![tactic(auto)]
 ghost use Rattle.std.specs.Prelude.{◌≡◌, length};
 ghost use Rattle.definitions.specs.Session.{half, steps_of};
 ghost use Rattle.moves.specs.Found.{Grouped};
@@ -70,10 +71,7 @@ fn end_order(
 ) -> Ending
     requires standing { Standing sizes table.now list.old marks.now keys.now c }
     requires sized { length list.old ≡ half sizes.shape.n }
-    ensures* ended { λ r. ⌜
-        (let result = result_in sizes.shape table.now list.old c in
-        OrderEnds sizes.shape.n result list.new r)
-        ⌝ }
+    ensures ended { OrderEnds sizes.shape.n (result_in sizes.shape table.now list.old c) list.new result }
 {
     match c {
         Completion::Stopped { number, place } => {

@@ -13,7 +13,7 @@ use Rattle.definitions.specs.Refusals.{fault_if, first_fault}
 use Rattle.definitions.specs.Session.{Result, ending_of, half_of, result_of, session_fault, shared_fault, steps_of, unless_met}
 use Rattle.theory.proofs.Exchanges.{AllExchanges}
 use Rattle.theory.proofs.Steps.{steps}
-use Rattle.vectors.specs.Areas.{Lent}
+use Rattle.vectors.specs.Areas.{Lent, LentMut}
 use Rattle.reduction.specs.declared.Shape.{Shape}
 use Rattle.reduction.specs.Areas.{sequences_in}
 use Rattle.moves.specs.Found.{Grouped}
@@ -79,7 +79,7 @@ pub record Ends (n : ℕ) (first second : Result) (list : List ℤ) (r : Session
   pub holds : list ≡ half_of n first ++ half_of n second
 
 -- .. after the steps that name them
-abbrev pub EndsIn : Tests → (n : ℕ) (generators0 generators1 list : Lent ℤ) (table steps : Lent ℕ) (r : Session)
+abbrev pub EndsIn : Tests → (n : ℕ) (generators0 generators1 : Lent ℤ) (list : LentMut ℤ) (table steps : Lent ℕ) (r : Session)
     → Type 0
 EndsIn tests n generators0 generators1 list table steps r =
     let result = result_by (shape_of n tests) table.entry.now in

@@ -4,7 +4,7 @@ use Rattle.definitions.specs.declared.Session.{Session}
 use Rattle.definitions.specs.Lent.{Order}
 use Rattle.definitions.specs.Session.{first_part, half, second_part, session_call, steps_of}
 use Rattle.definitions.specs.Demands.{AreasKept, PartKept}
-use Rattle.vectors.specs.Areas.{Lent}
+use Rattle.vectors.specs.Areas.{Lent, LentMut}
 
 -- both answers and both areas by the definition; what each order may conclude from its part, its answer and its half of
 -- the list area; and what the areas hold
@@ -27,7 +27,8 @@ pub record SessionPromise (first second : Order) (list_size group_size : ℕ) (s
   pub areas_kept : AreasKept first second list_size group_size (session_call first second list_size group_size steps)
 
 -- .. of the orders that are sent, in the areas that are lent
-abbrev pub KeepsSession : (first second : Order) (list : Lent ℤ) (group steps : Lent ℕ) (answer : Session) → Type 0
+abbrev pub KeepsSession : (first second : Order) (list : LentMut ℤ) (group : LentMut ℕ) (steps : Lent ℕ)
+    (answer : Session) → Type 0
 KeepsSession first second list group steps answer =
     SessionPromise first second (length list.entry.now) (length group.entry.now) steps.entry.now answer
     list.exit.now group.exit.now

@@ -1,4 +1,5 @@
 // A session (Specification 3.8): two orders on one group table, each on its half of one list area.
+#![tactic(auto)]
 ghost use Rattle.std.specs.Prelude.{◌≡◌, true, [], ◌∷◌, ◌+◌, ◌≤◌, length};
 ghost use Rattle.definitions.specs.declared.Fault.TheVariants.{None};
 ghost use Rattle.definitions.specs.Limits.{cells};
@@ -23,7 +24,7 @@ use session_orders::{complete_order, count_steps};
 use vectors::{clear, clear_bytes};
 
 // What the tests of both orders find, and the number of members of their group where one of them is left.
-#[derive(Drop)]
+#[derive(Clone, Copy)]
 struct Tests {
     first: Fault,
     second: Fault,
@@ -214,10 +215,7 @@ fn run_order(
 ) -> Ending
     requires grouped { fault ≡ None → Grouped shape generators.now table.now }
     requires sized { length list.old ≡ half shape.n }
-    ensures* ended { λ r. ⌜
-        (let result = result_by shape table.now fault generators.now count in
-        OrderEnds shape.n result list.new r)
-        ⌝ }
+    ensures ended { OrderEnds shape.n (result_by shape table.now fault generators.now count) list.new result }
 {
     match fault {
         Fault::At { number, place } => {

@@ -24,7 +24,7 @@ use Rattle.theory.proofs.Whole.{Stored}
 use Rattle.theory.proofs.Counting.{Tried, completed-tried, if-cases}
 use Rattle.theory.proofs.Completion.{Progress, Sound, completed-conformal, completed-sound, run-keeps, table-positive}
 use Rattle.theory.proofs.Listing.{final-few, final-sorted, final-keeps, final-stored, final-whole}
-use Rattle.theory.proofs.Faults.{accepted-refused, tests-none, unless-none}
+use Rattle.theory.proofs.Faults.{accepted-refused, unless-none}
 use Rattle.theory.proofs.Accepted.{admission-none, order-generators, order-symmetric, table-small}
 
 -- what an accepted listing rests on, for Split too

@@ -134,7 +134,7 @@ module _ (a b : ℤ) where
 
 -- a signed number is read back from its bits
 pub read_back : (z : ℤ) → mag z < 2 ^ hbits w32 → to_z w32 (of_z w32 z) ≡ z
-read_back z h = to_z-of_z (record { sfits = h })
+read_back z h = to_z-of_z {w = w32} (record { sfits = h })
 
 nat-sub : (a b : ℕ) → nat_abs (sub_ℕ a b) ≤ a + b
 nat-sub a b = go (ltb a b) refl

@@ -1,13 +1,17 @@
 -- Lent areas at the two moments of a call. Assumes nothing.
 use Rattle.std.specs.Prelude.{List, ℕ, ℤ, length, take}
-use Rattle.std.specs.Borrow.{Bor}
+use Rattle.std.specs.Borrow.{Bor, MutBor}
 use denote.Triple.Both.{Both}
 use Rattle.definitions.specs.Vector.{Vector}
 use Rattle.definitions.specs.Lent.{Order, filled, order_of, vectors_of}
 
--- a lent area: as it is passed (`entry`), and as the call leaves it (`exit`)
+-- an area lent for reading: as it is passed (`entry`), and as the call leaves it (`exit`)
 abbrev pub Lent : Type 0 → Type 0
 Lent A = Both (Bor (List A)) (Bor (List A))
+
+-- an area lent for writing, at the two moments
+abbrev pub LentMut : Type 0 → Type 0
+LentMut A = Both (MutBor (List A)) (MutBor (List A))
 
 -- its rows of n numbers, as they are passed
 abbrev pub vectors_in : (n : ℕ) (area : Lent ℤ) → List Vector

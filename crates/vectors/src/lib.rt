@@ -1,4 +1,6 @@
 // Vectors: an array of CELLS numbers by value, and rows of lent areas (Specification 2.1).
+#![tactic(auto)]
+
 ghost use Rattle.std.specs.Prelude.{◌≡◌, true, not, [], ◌+◌, ◌/◌, ◌≤◌, ◌<◌, pos, nat_abs, ◌*ℤ◌, length, get_or, take, drop};
 ghost use Rattle.std.specs.Int.Signed.{non_neg};
 ghost use Rattle.std.proofs.Math.Seq.{paste};

@@ -7,7 +7,7 @@ use Rattle.definitions.specs.declared.View.{View}
 use Rattle.definitions.specs.Lent.{filled}
 use Rattle.definitions.specs.Refusals.{accepted}
 use Rattle.definitions.specs.Window.{Chain, Room, WindowEnd, chain_fault, drawn_end, window_of}
-use Rattle.vectors.specs.Areas.{Lent, cleared_from}
+use Rattle.vectors.specs.Areas.{Lent, LentMut, cleared_from}
 use Rattle.moves.specs.declared.Numbers.{Numbers}
 use Rattle.moves.specs.Found.{listing_in}
 use Rattle.draws.specs.Draws.{chain_in}
@@ -22,14 +22,14 @@ pub record WindowEnds (due : WindowEnd) (answer : Run) (list : List ℤ) (group 
   pub answers_hold : answers ≡ due.answers
 
 -- .. in lent areas
-abbrev pub WindowEndsIn : (due : Room → WindowEnd) (list : Lent ℤ) (group : Lent ℕ) (answers : Lent ℤ)
+abbrev pub WindowEndsIn : (due : Room → WindowEnd) (list : LentMut ℤ) (group : LentMut ℕ) (answers : LentMut ℤ)
     (answer : Run) → Type 0
 WindowEndsIn due list group answers answer =
     WindowEnds (due (room_in list group answers)) answer
     list.exit.now group.exit.now answers.exit.now
 
 -- a refusal: zeros in two areas, and in the third from `at` on
-pub record Refuses (number place at : ℕ) (list : Lent ℤ) (group : Lent ℕ) (answers : Lent ℤ) (answer : Run)
+pub record Refuses (number place at : ℕ) (list : LentMut ℤ) (group : LentMut ℕ) (answers : LentMut ℤ) (answer : Run)
     : Type 0 where
   pub answer_is : answer ≡ Refused number place
   pub list_holds : list.exit.now ≡ filled (pos 0) (length list.entry.now) []
@@ -37,13 +37,13 @@ pub record Refuses (number place at : ℕ) (list : Lent ℤ) (group : Lent ℕ) 
   pub answers_hold : answers.exit.now ≡ cleared_from (pos 0) at answers.entry.now
 
 -- 6, 14 and the run, with a list and a table in their areas
-abbrev pub tested : View → Numbers → (start records list : Lent ℤ) (group : Lent ℕ) (room : Room) → WindowEnd
+abbrev pub tested : View → Numbers → (start records : Lent ℤ) (list : LentMut ℤ) (group : LentMut ℕ) (room : Room) → WindowEnd
 tested view found start records list group room =
     let listed = listing_in view.n found list.entry.now group.entry.now in
     window_of view.n (chain_in view start records) room (accepted listed)
 
 -- .. the run alone
-abbrev pub drawn : View → Numbers → (start records list : Lent ℤ) (group : Lent ℕ) (room : Room) → WindowEnd
+abbrev pub drawn : View → Numbers → (start records : Lent ℤ) (list : LentMut ℤ) (group : LentMut ℕ) (room : Room) → WindowEnd
 drawn view found start records list group room =
     let listed = listing_in view.n found list.entry.now group.entry.now in
     drawn_end view.n (chain_in view start records) room listed None

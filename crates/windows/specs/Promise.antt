@@ -9,7 +9,7 @@ use Rattle.definitions.specs.Lent.{Order, filled, numbers_of}
 use Rattle.definitions.specs.Calls.{Listing}
 use Rattle.definitions.specs.Window.{Chain, Room, answer_width, window_call}
 use Rattle.definitions.specs.Demands.{ListKept, Reached}
-use Rattle.vectors.specs.Areas.{Lent}
+use Rattle.vectors.specs.Areas.{Lent, LentMut}
 
 -- the contingency table of answer row i
 abbrev pub table_at : (n : ℕ) (answers : List ℤ) (i : ℕ) → Vector
@@ -64,7 +64,7 @@ abbrev pub sent_chain : (start : Lent ℤ) (width cell : ℕ) (records : Lent �
 sent_chain start width cell records =
     record { start = start.entry.now; width = width; cell = cell; records = records.entry.now }
 
-abbrev pub room_in : (list : Lent ℤ) (group : Lent ℕ) (answers : Lent ℤ) → Room
+abbrev pub room_in : (list : LentMut ℤ) (group : LentMut ℕ) (answers : LentMut ℤ) → Room
 room_in list group answers = record {
   list = length list.entry.now;
   group = length group.entry.now;
@@ -72,7 +72,7 @@ room_in list group answers = record {
 }
 
 -- .. of the order and the chain that are sent, in the areas that are lent
-abbrev pub KeepsWindow : Order → Chain → (list : Lent ℤ) (group : Lent ℕ) (answers : Lent ℤ) (answer : Run) → Type 0
+abbrev pub KeepsWindow : Order → Chain → (list : LentMut ℤ) (group : LentMut ℕ) (answers : LentMut ℤ) (answer : Run) → Type 0
 KeepsWindow order chain list group answers answer =
     WindowPromise order chain (room_in list group answers) answer
     list.exit.now group.exit.now answers.exit.now

@@ -1,0 +1,13 @@
+-- `negative` meets its contract. The invariant: the cells up to `i` are those of the answer. Assumes nothing.
+use mathlib.Core.Path.{◌≡◌}
+use Prim.Native.Nat.{◌≤◌, ◌-◌}
+use lib.Seq.{paste}
+use Rattle.definitions.specs.Limits.{cells}
+use Rattle.definitions.specs.Vector.{negative}
+use Rattle.vectors.proofs.negative.Given as goal
+
+abbrev pub invariant-loop-i : goal.invariant-loop-i
+invariant-loop-i l = (l.i ≤ cells) × (l.w ≡ paste l.initial.w 0 (negative l.v) l.i)
+
+abbrev pub decreases-loop-i : goal.decreases-loop-i
+decreases-loop-i l = cells - l.i
