@@ -100,13 +100,15 @@ class Function:
     def __init__(self, facts, crate, path):
         self.crate, self.path = crate, path
         self.facts = facts
-        self.parent, self.field, self.new_place, self.clauses, self.callee = {}, {}, {}, {}, {}
+        self.parent, self.field, self.new_place, self.clauses, self.callee, self.typed = {}, {}, {}, {}, {}, {}
         for i, (name, parent, field, callee, _) in enumerate(facts["places"]):
             self.parent[plain(name)] = parent and plain(parent)
             self.field[plain(name)] = (plain(field[0]), field[1])
             self.new_place[plain(name)] = facts["places_by_name"][i]
             self.clauses[plain(name)] = facts["clauses"][i]
             self.callee[plain(name)] = callee
+            self.typed[plain(name)] = bool(facts["typed"][i])
+        self.of_lts = {facts["places_by_name"][i]: p[0] for i, p in enumerate(facts["places"])}
         self.needs, self.need_at = {}, {}
         for (old, new), (place, _) in zip(facts["needs"], facts["asked_at"]):
             key = plain(old)
@@ -118,14 +120,14 @@ class Function:
             if len(pair) == 2 and pair[0].startswith((".args ", ".ranges ")):
                 self.args[pair[0].split(".")[-1]] = pair[1].split(".")[-1]
         self.told = {p[0][1:]: p[1][1:] for p in facts["args"] if p[0].startswith((".told", ".fits"))}
-        self.helpers = {}
+        self.helpers, self.params, self.parts, self.in_module = {}, {}, {}, {}
         self.left = []
         self.used_places = set()
         self.decl_names = {}
 
     def need(self, word):
         key = plain(word)
-        for k in (key, re.sub(r"^overflow_", "", key), re.sub(r"^nonzero_", "", key), re.sub(r"^shape_of", "same_length", key)):
+        for k in (key, re.sub(r"^overflow_", "", key), re.sub(r"^nonzero_", "", key), re.sub(r"^slice_bounds_", "part_", key)):
             if k in self.needs:
                 return k
         return None
@@ -163,39 +165,32 @@ class Function:
         return segs
 
     def segments(self, place, segs):
-        """The names of a path from a context at a place; and the place where it ends, if it is one."""
-        out, i = [], 0
-        while i < len(segs) and segs[i] == "before":
-            if place is None or self.parent.get(place) is None:
-                self.left.append("no place before: " + ".".join(segs))
-                return segs, None
-            place = self.parent[place]
-            out.append("before")
-            i += 1
-        if i == len(segs):
-            return out, place
-        word, rest = segs[i], segs[i + 1:]
+        """The names of a path, without its steps back, from a context at a place."""
+        word, rest = segs[0], segs[1:]
         if word in ("args", "ranges"):
             if rest:
                 rest = [self.args.get(rest[0], rest[0].replace("-", "_"))] + rest[1:]
-            return out + [word] + rest, None
+            return [word] + rest
         if word in ("pre", "requires"):
-            return out + self.requires(rest), None
+            return self.requires(rest)
         if word in self.told:
-            return out + [self.told[word]] + rest, None
+            return [self.told[word]] + rest
+        if word in ("well-formed", "good"):
+            return ["well_formed"] + rest
         at = place
         while at is not None:
             old, new = self.field[at]
             if old and old == plain(word):
-                return out + [new] + self.fields_of(at, rest), None
+                return [new] + self.fields_of(at, rest)
             at = self.parent[at]
         for at in self.field:
             old, new = self.field[at]
             if old and old == plain(word):
                 self.left.append(f"step {word} is not above its place {place}")
-                return out + [new] + self.fields_of(at, rest), None
-        self.left.append("no step " + word)
-        return out + [word] + rest, None
+                return [new] + self.fields_of(at, rest)
+        if word not in ("lifetimes", "blocks", "type_inv"):
+            self.left.append(f"no step {word} at {place}")
+        return [word] + rest
 
     def fields_of(self, at, rest):
         if not rest:
@@ -213,105 +208,181 @@ class Function:
             return ["true"] + rest[1:]
         if rest[0] == "left":
             return ["false"] + rest[1:]
+        if rest[0] == "inv":
+            return ["invariant"] + rest[1:]
         if at.startswith("At_"):
             return [rest[0].replace("-", "_") if rest[0] not in ("type-inv",) else rest[0]] + rest[1:]
         return rest
 
-    def place_of(self, expression, env):
-        """The place of an expression that is a context, or None."""
-        e = expression.strip()
-        while e.startswith("(") and closing(e, 0) == len(e) - 1:
-            e = e[1:-1].strip()
-        m = re.fullmatch("(" + ID + r")((?:\.before)*)", e)
-        if m and m.group(1) in env:
-            place = env[m.group(1)]
-            if place.startswith("("):
-                return None
-            for _ in range(m.group(2).count(".before")):
-                place = place and self.parent.get(place)
-            return place
-        m = re.match("(" + ID + r")\s", e)
-        if m and m.group(1) in self.helpers:
-            return self.helpers[m.group(1)]
-        m = re.match(r"\(", e)
-        if m:
-            j = closing(e, 0)
-            rest = e[j + 1:]
-            if re.fullmatch(r"(?:\.before)+", rest):
-                place = self.place_of(e[:j + 1], env)
-                for _ in range(rest.count(".before")):
-                    place = place and self.parent.get(place)
-                return place
-        return None
-
-    def kind_of(self, expression, env):
-        """The place of an expression, or what part of a context it is."""
-        place = self.place_of(expression, env)
-        if place is not None:
-            return place
-        e = expression.strip()
-        m = re.fullmatch(r"(?s)(.*?)((?:\.before)*)\.([\w\-]+)", e)
+    def context(self, text, at, env):
+        """Reads a context expression at a place of a text: its end, its root, and its place where a helper says it; or None."""
+        depth, i = 0, at
+        opened = []
+        while i < len(text) and text[i] == "(":
+            opened.append(i)
+            i += 1
+        m = re.compile(ID).match(text, i)
         if not m:
             return None
-        place = self.place_of(m.group(1) + m.group(2), env)
-        if place is None:
+        word = m.group(0)
+        if word in env:
+            root, place = env[word]
+            i = m.end()
+        elif word in self.helpers and self.params.get(word):
+            k = m.end()
+            while k < len(text) and text[k] in " \n":
+                k += 1
+            inner = self.context(text, k, env)
+            if not inner:
+                return None
+            i, root, place = inner[0], inner[1], self.helpers[word]
+        else:
             return None
-        if m.group(3) == "args":
-            return "(args)"
-        if m.group(3) in ("pre", "requires"):
-            return "(requires)"
-        at = place
-        while at is not None:
-            if self.field[at][0] and self.field[at][0] == plain(m.group(3)):
-                return "(step)" + at
+        b = re.compile(r"(?:\.before(?![\w'\-]))+").match(text, i)
+        if b:
+            i, place = b.end(), None
+        for _ in opened:
+            if i < len(text) and text[i] == ")":
+                i += 1
+            else:
+                return None
+            b = re.compile(r"(?:\.before(?![\w'\-]))+").match(text, i)
+            if b:
+                i, place = b.end(), None
+        return i, root, place
+
+    def steps(self, root, place):
+        """A root's place that lies above, as steps back."""
+        name, at, wrapped = root
+        n = 1 if wrapped else 0
+        while at is not None and at != place:
             at = self.parent[at]
+            n += 1
+        if at is None:
+            self.left.append(f"{place} is not above the place of {name}")
+            return name + ".before"
+        return name + ".before" * n
+
+    def asked_place(self, text, at):
+        """The place that a helper asks for as the argument at a place of a text, or None."""
+        i, k = at, 0
+        while i > 0:
+            while i > 0 and text[i - 1] in " \n":
+                i -= 1
+            if i == 0 or text[i - 1] in "=([{,;\u2192\u2261\u2219.":
+                return None
+            if text[i - 1] in ")]}":
+                j = opening(text, i - 1)
+                word = text[j:i]
+            else:
+                m = re.search(r"[^\s()\[\]{},;]+$", text[:i])
+                if not m:
+                    return None
+                j, word = m.start(), m.group(0)
+                # a projection of something in brackets
+                if word.startswith(".") and j > 0 and text[j - 1] in ")]}":
+                    j = opening(text, j - 1)
+            if word in self.params:
+                return self.params[word][k] if k < len(self.params[word]) else None
+            k += 1
+            i = j
         return None
 
-    def turned(self, body, env):
+    def turned(self, body, env, result=None):
+        """A text with its contexts turned. env: a name to its root (name, place, wrapped) and its place; result: its own place."""
         env = dict(env)
-        for m in re.finditer(r"(?<![\w'\-])let\s+(" + ID + r")\s*=\s*", body):
-            rest = body[m.end():]
-            ends = [e for e in (rest.find(" in\n"), rest.find(" in ")) if e >= 0]
-            if ends:
-                place = self.kind_of(rest[:min(ends)], env)
-                if place is not None:
-                    env[m.group(1)] = place
-                elif m.group(1) in env:
-                    del env[m.group(1)]
-        def one(m):
-            base, segs = m.group(1), m.group(2)[1:].split(".")
-            if base not in env:
-                return m.group(0)
-            kind = env[base]
-            if kind == "(args)":
-                out = [self.args.get(segs[0], segs[0].replace("-", "_"))] + segs[1:]
-            elif kind == "(requires)":
-                out = self.requires(segs)[1:]
-            elif kind.startswith("(step)"):
-                out = self.fields_of(kind[6:], segs)
-            else:
-                out, _ = self.segments(kind, segs)
-            return base + "." + ".".join(out)
         names = {old: new for old, new in self.decl_names.items() if old != new}
         if names:
             cited = re.compile(r"(?<![\w'.\-])(" + "|".join(map(re.escape, sorted(names, key=len, reverse=True))) + r")(?![\w'\-])(?= )")
             body = cited.sub(lambda m: names[m.group(1)], body)
-        text = CHAIN.sub(one, body)
         out, i = "", 0
-        while True:
-            m = re.compile(r"\)((?:\.[\w'\-]+)+)").search(text, i)
-            if not m:
-                return out + text[i:]
-            start = opening(text, m.start())
-            place = self.place_of(text[start:m.start() + 1], env)
-            out += text[i:m.start() + 1]
-            segs = m.group(1)[1:].split(".")
-            if place is not None:
-                segs, _ = self.segments(place, segs)
-            elif segs and segs[0] == "pre":
-                segs = self.requires(segs[1:])
-            out += "." + ".".join(segs)
-            i = m.end()
+        word = re.compile(ID)
+        while i < len(body):
+            if body.startswith("--", i):
+                j = body.find("\n", i)
+                j = len(body) if j < 0 else j
+                out += body[i:j]
+                i = j
+                continue
+            before = out[-1:] if out else ""
+            let = re.compile(r"let\s+(" + ID + r")\s*=\s*").match(body, i) if not re.match(r"[\w'.\-]", before) else None
+            if let:
+                got = self.context(body, let.end(), env)
+                if got:
+                    end = re.compile(r"\s+in(?![\w'\-])\s?").match(body, got[0])
+                    if end:
+                        env[let.group(1)] = (got[1], got[2])
+                        i = end.end()
+                        if out.endswith("\n    ") or out.endswith("\n"):
+                            m = re.compile(r"\s*").match(body, i)
+                            i = m.end()
+                        continue
+                    part = re.compile(r"((?:\.[\w'\-]+)+)\s+in(?![\w'\-])").match(body, got[0])
+                    if part:
+                        segs = part.group(1)[1:].split(".")
+                        last = segs[-1]
+                        if last == "args" and len(segs) == 1:
+                            self.parts[let.group(1)] = "(args)"
+                        elif last in ("pre", "requires") and len(segs) == 1:
+                            self.parts[let.group(1)] = "(requires)"
+                        elif len(segs) == 1:
+                            at = got[1][1]
+                            while at is not None and self.field[at][0] != plain(last):
+                                at = self.parent[at]
+                            if at is not None:
+                                self.parts[let.group(1)] = "(step)" + at
+                else:
+                    self.parts.pop(let.group(1), None)
+                    env.pop(let.group(1), None)
+                out += body[i:let.end()]
+                i = let.end()
+                continue
+            if not re.match(r"[\w'.\-\u2080-\u2089]", before) and (body[i] == "(" or word.match(body, i)):
+                got = self.context(body, i, env)
+                if got:
+                    end, root, place = got
+                    m = re.compile(r"((?:\.[\w'\-]+)+)").match(body, end)
+                    if m:
+                        segs = self.segments(root[1], m.group(1)[1:].split("."))
+                        path = root[0] + "." + ".".join(segs)
+                        if segs[0].startswith("if-not-") and segs[1:] in (["true"], ["false"]):
+                            path = "(ap not " + path + ")"
+                        out += path
+                        i = m.end()
+                        continue
+                    rest = re.compile(r"\s*[=:\u21a6]").match(body, end)
+                    if not rest:
+                        want = place or self.asked_place(out, len(out)) or (result if not out.strip() or out.rstrip().endswith("=") else None)
+                        if want:
+                            out += self.steps(root, want)
+                            i = end
+                            continue
+                        if body[i:end] != root[0]:
+                            self.left.append("a context is passed on: " + out[-30:].replace("\n", " ") + "<" + body[i:end] + ">")
+                        out += root[0] if ".before" not in body[i:end] else body[i:end]
+                        i = end
+                        continue
+            m = word.match(body, i)
+            if m and not re.match(r"[\w'.\-]", before):
+                w = m.group(0)
+                c = re.compile(r"((?:\.[\w'\-]+)+)").match(body, m.end())
+                if c and w in self.parts and w not in env:
+                    segs, kind = c.group(1)[1:].split("."), self.parts[w]
+                    if kind == "(args)":
+                        segs = [self.args.get(segs[0], segs[0].replace("-", "_"))] + segs[1:]
+                    elif kind == "(requires)":
+                        segs = self.requires(segs)[1:]
+                    else:
+                        segs = self.fields_of(kind[6:], segs)
+                    out += w + "." + ".".join(segs)
+                    i = c.end()
+                    continue
+                out += w
+                i = m.end()
+                continue
+            out += body[i]
+            i += 1
+        return out
 
     def types(self, text):
         """Names of places in types, and the goals."""
@@ -423,24 +494,42 @@ def convert(function, text):
             r = re.match(r"\s*tie\.([\w'\-]+)", parts[-1])
             if r and plain(r.group(1)) in f.new_place:
                 f.helpers[name] = plain(r.group(1))
+            asked = []
+            mod = re.match(r"(?s)(?:--[^\n]*\n)*module _ (.*?) where\n", b)
+            if mod and "\n  " in m.group(0)[:1] + "\n  " and not re.match(r"module", m.group(0)):
+                for g in re.finditer(r"\(([^():]*) : ([^()]*(?:\([^()]*\)[^()]*)*)\)", mod.group(1)):
+                    p = re.match(r"tie\.([\w'\-]+)", g.group(2).strip())
+                    asked += [plain(p.group(1)) if p and plain(p.group(1)) in f.new_place else None] * len(g.group(1).split())
+            inner = list(asked)
+            for part in parts[:-1]:
+                part = part.strip()
+                if part.startswith("{"):
+                    continue
+                groups = re.findall(r"\(([^():]*) : ([^()]*(?:\([^()]*\)[^()]*)*)\)", part) if re.match(r"\([^():]* : ", part) else [("_", part)]
+                for names_, ty in groups:
+                    p = re.match(r"tie\.([\w'\-]+)", ty.strip())
+                    asked += [plain(p.group(1)) if p and plain(p.group(1)) in f.new_place else None] * len(names_.split())
+            f.params[name] = asked
+            f.in_module[name] = len(inner)
 
     def environment(signature, params, outer):
         env = dict(outer)
         position = 0
-        for part in split_at(re.sub(r"\s+", " ", signature), "→"):
+        for part in split_at(re.sub(r"\s+", " ", signature), "\u2192"):
             part = part.strip()
-            m = re.match(r"\(([^:]*) : (.*)\)$", part)
-            names, ty = (m.group(1).split(), m.group(2)) if m else ([None], part)
             if part.startswith("{"):
                 continue
-            p = re.match(r"tie\.([\w'\-]+)", ty.strip())
-            for nm in names:
-                if p and plain(p.group(1)) in f.new_place:
-                    if nm:
-                        env[nm] = plain(p.group(1))
-                    if position < len(params):
-                        env[params[position]] = plain(p.group(1))
-                position += 1
+            groups = re.findall(r"\(([^():]*) : ([^()]*(?:\([^()]*\)[^()]*)*)\)", part) if re.match(r"\([^():]* : ", part) else [(None, part)]
+            for names_, ty in groups:
+                p = re.match(r"tie\.([\w'\-]+)", ty.strip())
+                for nm in (names_.split() if names_ else [None]):
+                    if p and plain(p.group(1)) in f.new_place:
+                        at = plain(p.group(1))
+                        if nm:
+                            env[nm] = ((nm, at, False), at)
+                        if position < len(params):
+                            env[params[position]] = ((params[position], at, False), at)
+                    position += 1
         return env
 
     def body_turned(b, outer):
@@ -461,8 +550,14 @@ def convert(function, text):
             for piece in pieces:
                 c = re.match(r"\s*" + re.escape(name) + r"((?:\s+[\w'\u2080-\u2089\u03ba]+)*)\s*=", piece)
                 params = c.group(1).split() if c else []
-                done.append(f.turned(piece, environment(signature, params, outer)))
-            out.append(f.types(f.turned(it[:m.end()], env)) + "".join(done))
+                f.parts = {}
+                if c:
+                    done.append(piece[:c.end()] + f.turned(piece[c.end():], environment(signature, params, outer), f.helpers.get(name)))
+                else:
+                    done.append(f.turned(piece, environment(signature, params, outer)))
+            f.parts = {}
+            cut = m.start(3)
+            out.append(it[:cut] + f.types(f.turned(it[cut:m.end()], env)) + "".join(done))
         return "".join(out)
 
     for b in blocks:
@@ -499,7 +594,9 @@ def convert(function, text):
             if body.strip() in ("tt", "search rules"):
                 continue
             ctx = params[0] if params else "c"
-            env = {ctx: f.need_at[key]}
+            at = f.need_at[key]
+            env = {ctx: ((ctx, at, f.typed[at]), at)}
+            f.parts = {}
             body = f.turned(body, env)
             where = f.types(f.turned(where, env))
             asked = f.facts["asked"]
@@ -516,14 +613,22 @@ def convert(function, text):
         if mm:
             for g in re.finditer(r"\(([^():]*) : tie\.([\w'\-]+)", mm.group(1)):
                 for nm in g.group(1).split():
-                    outer[nm] = plain(g.group(2))
+                    outer[nm] = ((nm, plain(g.group(2)), False), plain(g.group(2)))
         if "tie." not in b:
             plain_helpers.append(b)
             answers.append(b)
             continue
         if mm:
             i = b.index("where\n") + 6
+            kept = dict(f.params)
+            for nm in re.findall(r"(?m)^\s+(?:abbrev |pub |unfoldable )*(" + ID + r") : ", b):
+                if nm in f.params:
+                    f.params[nm] = f.params[nm][f.in_module.get(nm, 0):]
+            for nm, ty in re.findall(r"(?m)^\s+(?:abbrev |pub |unfoldable )*(" + ID + r") : tie\.([\w'\-]+)[^\n\u2192]*\n", b):
+                if plain(ty) in f.new_place:
+                    outer[nm] = ((nm, plain(ty), False), plain(ty))
             answers.append(f.types(b[:i]) + body_turned(b[i:], outer))
+            f.params = kept
         else:
             answers.append(body_turned(b, outer))
     text_answers = "\n\n".join(answers)
@@ -538,6 +643,8 @@ def convert(function, text):
     for name, h in moved:
         text_answers = text_answers.replace(h + "\n\n", "").replace(h, "")
     text_answers = re.sub(r" \u03bas(?![\w'])", "", text_answers)
+    text_answers = re.sub(r"(?<=[\w)'])\.pre((?:\.[01](?![\w]))*)(?![\w'\-])", lambda m: "." + ".".join(f.requires([s for s in m.group(1).split(".") if s])), text_answers)
+    text_answers = re.sub(r"\.inv(?![\w'\-])", ".invariant", text_answers)
     module = f"Rattle.{f.crate}.proofs.{f.path.replace('/', '.')}"
     out = {}
     if invariants:

@@ -1,0 +1,19 @@
+-- `note_first` meets its contract. The loop's invariant: the first r rows are those of the first p generators, and their
+-- coefficients are noted. Assumes nothing.
+use mathlib.Core.Path.{◌≡◌, refl, ◌∙◌, ap}
+use mathlib.Core.Logic.{⊎_elim}
+use Prim.Native.Nat.{◌+◌, ◌-◌, ◌≤◌, ◌<◌}
+use native.Mathlib.Nat.{div-le_self, mul-le-mul_right}
+use native.Mathlib.Omega.{arith}
+use lib.ListN.{length}
+use Rattle.theory.proofs.Lists.{row-end}
+use Rattle.certified.specs.Noting.{FirstStored, width_of}
+use Rattle.certified.proofs.FirstNotes.{FirstNoted, first-end, first-onward, first_past, first-same, first-start}
+use Rattle.certified.proofs.note_first.Given as goal
+
+abbrev pub invariant-loop-p : goal.invariant-loop-p
+invariant-loop-p l =
+    (length l.coefficients ≡ length l.initial.coefficients) × (l.p ≤ l.count) × (0 < length l.basis → FirstNoted l.shape l.table l.basis l.coefficients l.r l.p)
+
+abbrev pub decreases-loop-p : goal.decreases-loop-p
+decreases-loop-p l = l.count - l.p

@@ -1,0 +1,66 @@
+-- `run_order` meets its contract: a refused order leaves zeros, another takes its steps. Assumes nothing.
+use mathlib.Core.Path.{◌≡◌, refl, sym, ◌∙◌, ap}
+use mathlib.Core.List.{List, []}
+use Prim.Native.Nat.{ℕ}
+use borrow.Author.Rules.{rules}
+use lib.IntN.{ℤ, pos}
+use lib.ListN.{length}
+use Rattle.definitions.specs.declared.Ending.TheVariants.{Refused}
+use Rattle.definitions.specs.declared.Fault.{Fault}
+use Rattle.definitions.specs.declared.Fault.TheVariants.{None, At}
+use Rattle.definitions.specs.Limits.{session_rows}
+use Rattle.definitions.specs.Group.{Exchange}
+use Rattle.definitions.specs.Completion.{Completion, is_over, stopped}
+use Rattle.definitions.specs.Lent.{filled}
+use Rattle.definitions.specs.Refusals.{refused}
+use Rattle.definitions.specs.Session.{Result, ended, ending_of, half, half_of, result_of, unless_met}
+use Rattle.theory.proofs.Steps.{steps, steps-over}
+use Rattle.session_orders.specs.Ends.{OrderEnds}
+use Rattle.sessions.proofs.run_order.Goals as goal
+
+-- an order that met a test has come to its refusal
+met-result : (table : List Exchange) (c : Completion) (count : ℕ) {fault : Fault} {number place : ℕ} → fault ≡ At number place
+    → result_of table (steps table session_rows count (unless_met fault c)) ≡ ended (refused number place)
+unfolding unless_met is_over result_of
+met-result table c count {number = number} {place = place} e =
+    ap (λ (f : Fault). result_of table (steps table session_rows count (unless_met f c))) e
+    ∙ ap (result_of table) (steps-over table session_rows count (stopped number place) refl)
+
+-- and its half is zeros
+ends-met : {n number place : ℕ} {result : Result} (list : List ℤ) {list' : List ℤ} → result ≡ ended (refused number place)
+    → length list ≡ half n → list' ≡ filled (pos 0) (length list) [] → OrderEnds n result list' (Refused number place)
+unfolding ending_of half_of
+ends-met {n} list r l e = record {
+  answer = sym (ap ending_of r);
+  holds = e ∙ ap (λ (k : ℕ). filled (pos 0) k []) l ∙ sym (ap (half_of n) r);
+}
+
+-- one that met none takes its steps
+unmet-result : (table : List Exchange) (c : Completion) (count : ℕ) {fault : Fault} → fault ≡ None
+    → result_of table (steps table session_rows count c) ≡ result_of table (steps table session_rows count (unless_met fault c))
+unfolding unless_met
+unmet-result table c count e = sym (ap (λ (f : Fault). result_of table (steps table session_rows count (unless_met f c))) e)
+
+ends_same : {n : ℕ} {a b : Result} {list : List ℤ} {r : _} → a ≡ b → OrderEnds n a list r → OrderEnds n b list r
+ends_same {n} e E = record { answer = E.answer ∙ ap ending_of e; holds = E.holds ∙ ap (half_of n) e }
+
+-- TODO no goal enum-told
+-- enum_told : tie.Need-enum-told
+-- enum_told c = search rules
+
+pub complete_order-requires : goal.complete_order-requires
+complete_order-requires c = record { grouped = c.requires.grouped c.enum_told-1.given.1; sized = c.requires.sized }
+
+-- TODO no goal same-length
+-- same_length : tie.Need-same-length
+-- same_length c = search rules
+
+pub returns-in-At : goal.returns-in-At
+returns-in-At c = record { ended = ends-met c.args.list.now (met-result _ _ c.args.count c.fault-1.given.1) c.requires.sized c.clear.ensures.cleared }
+
+-- TODO no goal same-length-2
+-- same-length-2 : tie.Need-same-length-2
+-- same-length-2 c = search rules
+
+pub returns-in-None : goal.returns-in-None
+returns-in-None c = record { ended = ends_same (unmet-result _ _ c.args.count c.enum_told-1.given.1) c.complete_order.ensures.ended }
