@@ -1,6 +1,7 @@
 // The tests with which every call begins, 5 to 11 and 23, and the table of the group in its area (Specification 7.1 to
 // 7.3).
 #![tactic(auto)]
+
 ghost use Rattle.std.specs.Prelude.{◌≡◌, ◌/◌, ◌≤◌, min, []};
 ghost use Rattle.definitions.specs.Limits.{cells};
 ghost use Rattle.definitions.specs.Lent.{order_of};

@@ -1,6 +1,7 @@
 // Answers as text, laid into a lent area, and refusals as results (Specification 9). A place past the area's end says
 // that the text is too long; the area is then zero, and stays so.
 #![tactic(auto)]
+
 ghost use Rattle.std.specs.Prelude.{◌≡◌, [], ◌∷◌, ◌-◌, ◌*◌, ◌≤◌, ◌<◌, ◌^◌, nat_abs, length};
 ghost use Rattle.std.proofs.Math.Seq.{paste};
 ghost use Rattle.definitions.specs.Lent.{chunks};

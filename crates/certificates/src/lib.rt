@@ -1,6 +1,7 @@
 // Tests 17 to 19 of a list that is brought to Check (Specification 5.1 and 7.2): each row fits, stands in its place,
 // and has a certificate; and 23 of a bare order: each image of a generator has one.
 #![tactic(auto)]
+
 ghost use Rattle.std.specs.Prelude.{◌≡◌, false, ◌/◌, ◌≤◌, ◌<◌, pos, length, get_or};
 ghost use Rattle.definitions.specs.Limits.{cells, coefficient_limit};
 ghost use Rattle.definitions.specs.Lists.{any};

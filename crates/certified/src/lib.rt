@@ -1,6 +1,7 @@
 // The completion run to its end, with the coefficients of each stored row beside it (Specification 3.1 to 3.4 and 3.7).
 // `basis` are the generators that coefficients are for; with none it is the completion, and nothing is noted.
 #![tactic(auto)]
+
 ghost use Rattle.std.specs.Prelude.{◌≡◌, ◌+◌, ◌*◌, ◌/◌, ◌≤◌, ◌<◌, length};
 ghost use Rattle.completion.specs.Machine.{Admissible, Areas, Ready};
 ghost use Rattle.reduction.specs.Areas.{sequences_in};

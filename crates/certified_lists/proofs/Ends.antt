@@ -1,14 +1,10 @@
 -- How a List with coefficients ends (Specification 3.5, 3.7 and 7.4). Assumes nothing.
 use mathlib.Core.Path.{◌≡◌, refl, sym, ◌∙◌, ap, ap₂, subst}
-use mathlib.Core.Logic.{⊎_elim}
-use mathlib.Core.List.{List, [], ◌∷◌}
+use mathlib.Core.List.{List, []}
 use Prim.Native.Nat.{ℕ}
 use native.Mathlib.Omega.{arith}
 use lib.IntN.{ℤ, pos}
 use lib.ListN.{length, replicate, length-replicate}
-use denote.Enum.Declared.{tag_of}
-use types.Run.{OneOf}
-use Rattle.definitions.specs.contracts.Answer.{the_type}
 use Rattle.definitions.specs.declared.Answer.{Answer}
 use Rattle.definitions.specs.declared.Answer.TheVariants.{Refused}
 use Rattle.definitions.specs.declared.Fault.{Fault}
@@ -36,7 +32,7 @@ answer-refused (accepted found) e = let z : ◌≡◌ {A = ℕ} 0 1 = cc in absu
 
 -- an answer that is no refusal
 abbrev NoRefusal : Answer → Type 0
-NoRefusal r = OneOf (0 ∷ 1 ∷ 2 ∷ []) (tag_of the_type r)
+NoRefusal r = (number place : ℕ) → r ≡ Refused number place → ⊥
 
 record Accepting (r : Answer) (o : Outcome CertifiedListing) : Type 0 where
   found : CertifiedListing
@@ -44,10 +40,7 @@ record Accepting (r : Answer) (o : Outcome CertifiedListing) : Type 0 where
   answer : r ≡ answer_of (accepted found)
 
 answer-found : {r : Answer} (o : Outcome CertifiedListing) → NoRefusal r → r ≡ answer_of o → Accepting r o
-answer-found (refused a b) h e = absurd (no-refusal (subst NoRefusal e h))
-  where
-    no-refusal : OneOf (0 ∷ 1 ∷ 2 ∷ []) 3 → ⊥
-    no-refusal h = ⊎_elim (λ e. omega arith) (λ r. ⊎_elim (λ e. omega arith) (λ e. omega arith) r) h
+answer-found (refused a b) h e = absurd (h a b e)
 answer-found (accepted found) h e = record { found = found; same = refl; answer = e }
 
 -- ---- what is found where a test is met

@@ -1,5 +1,6 @@
 // The commands of an order file and the numbers of their operands (Specification 8.1).
 #![tactic(auto)]
+
 ghost use Rattle.std.specs.Prelude.{◌≡◌, ◌+◌, ◌≤◌, ◌<◌, ◌^◌, length};
 ghost use Rattle.definitions.specs.Limits.{cells, generator_limit};
 ghost use Rattle.commands.specs.Commands.{behind, command_at, code_of, operands_of, width_of};

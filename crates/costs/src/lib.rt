@@ -1,5 +1,6 @@
 // The costs and the bounds of plans, and the tests of a problem (Specification 3.10): refusals 6, 26 and 27.
 #![tactic(auto)]
+
 ghost use Rattle.std.specs.Prelude.{◌≡◌, true, max, nat_abs, ◌-ℤ◌, length};
 ghost use Rattle.definitions.specs.Limits.{cost_limit};
 ghost use Rattle.definitions.specs.Vector.{within};

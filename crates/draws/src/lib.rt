@@ -1,6 +1,7 @@
 // The records of a run of draws: each is tested and added to a contingency table, and has an answer row in a lent area
 // (Specification 3.9).
 #![tactic(auto)]
+
 ghost use Rattle.std.specs.Prelude.{◌≡◌, true, [], ◌∷◌, ◌++◌, suc, ◌+◌, ◌/◌, ◌≤◌, ◌<◌, pos, length, get_or, take};
 ghost use Rattle.definitions.specs.Limits.{cells, record_width, window_limit};
 ghost use Rattle.definitions.specs.Window.{answer_width, chain_fault, chain_fits, draw_of, drawn_image, draws_of};

@@ -2,6 +2,7 @@
 // (Specification 3.9). They are kept from record to record, and the window is read afresh only where the value that
 // leaves it was the smallest or the largest.
 #![tactic(auto)]
+
 ghost use Rattle.std.specs.Prelude.{◌≡◌, cond, [], ◌∷◌, ◌++◌, suc, ◌+◌, ◌-◌, ◌≤◌, ◌<◌, ◌/◌, eqb, length, get_or, set};
 ghost use Rattle.definitions.specs.Limits.{record_width, window_limit};
 ghost use Rattle.definitions.specs.Window.{larger, lesser};

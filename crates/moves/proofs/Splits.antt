@@ -1,13 +1,11 @@
 -- How a Split ends, and what that promises (Specification 4 and 7.4). Assumes nothing.
 use mathlib.Core.Path.{◌≡◌, refl, sym, ◌∙◌, ap, ap₂, subst}
-use mathlib.Core.Logic.{◌↔◌, ⊎_elim}
-use mathlib.Core.Bool.{true, not}
+use mathlib.Core.Logic.{◌↔◌}
+use mathlib.Core.Bool.{true}
 use mathlib.Core.List.{List, [], ◌∷◌, map}
 use Prim.Native.Nat.{ℕ, ◌-◌, ◌*◌, ◌/◌, ◌≤◌}
 use native.Mathlib.Omega.{arith}
 use borrow.Author.Tests.{leb-true, not-false}
-use denote.Enum.Declared.{tag_of}
-use types.Run.{OneOf}
 use lib.Dec.{leb}
 use lib.IntN.{ℤ, pos}
 use lib.ListN.{length, get_or, replicate, take, drop}
@@ -18,14 +16,13 @@ use Rattle.definitions.specs.declared.Fault.{Fault}
 use Rattle.definitions.specs.declared.Fault.TheVariants.{None, At}
 use Rattle.definitions.specs.Limits.{cells, entry_limit, piece_width, split_limit}
 use Rattle.definitions.specs.Lists.{concat}
-use Rattle.definitions.specs.Vector.{Vector, is_zero, padded, within}
+use Rattle.definitions.specs.Vector.{Vector, padded, within}
 use Rattle.definitions.specs.Group.{Exchange}
 use Rattle.definitions.specs.Completion.{Completion, completed, final_rows, running, stopped}
 use Rattle.definitions.specs.Split.{Image, Splitting, placed_orbits, splitting, written}
 use Rattle.definitions.specs.Lent.{Order, filled, generators_of, list_rows, numbers_of, table_of, whole_rows}
 use Rattle.definitions.specs.Refusals.{Outcome, accepted, refused, cells_fault, fault_where, first_fault, is_past, split_fault, split_size_fault, unless_fault}
 use Rattle.definitions.specs.Calls.{ListEnd, Listing, Parts, SplitEnd, list_call, list_end, listing, listing_of, parts, parts_of, split_call, split_end}
-use Rattle.definitions.specs.contracts.Answer.{the_type}
 use Rattle.theory.proofs.Lists.{chunks-length}
 use Rattle.theory.proofs.Members.{Each, each_nil, each_append, each_from, each-head, each_tail}
 use Rattle.theory.proofs.Bounds.{Within, each_within, within-each, within_more}
@@ -283,7 +280,7 @@ module _ {order : Order} {list_size group_size : ℕ} {answer : Answer} {list : 
         ∙ ap₂ (λ (k m : ℕ). accepted (record { rows = found.rows; table = found.table; stored = k; sums = m })) L.stored_are L.sums_are ∙ sym L.same
 
 -- the inner List was refused: its answer is that of the Split
-pub ends-unlisted : {order : Order} {list_size group_size : ℕ} (pieces_size : ℕ) {answer : Answer} {list : List ℤ} {group : List ℕ} {pieces : List ℤ} (vector : List ℤ) → ListPromise order list_size group_size answer list group → OneOf (1 ∷ 2 ∷ 3 ∷ []) (tag_of the_type answer)
+pub ends-unlisted : {order : Order} {list_size group_size : ℕ} (pieces_size : ℕ) {answer : Answer} {list : List ℤ} {group : List ℕ} {pieces : List ℤ} (vector : List ℤ) → ListPromise order list_size group_size answer list group → ((rows g stored sums : ℕ) → answer ≡ Moves rows g stored sums → ⊥)
     → pieces ≡ filled (pos 0) pieces_size [] → SplitEnds (split_end order.n list_size group_size pieces_size (parts_of vector pieces_size (listing order list_size group_size))) answer list group pieces
 unfolding list_call list_end split_end parts_of
 ends-unlisted {order} {list_size} {group_size} pieces_size {answer} {list} {group} {pieces} vector P other cleared = go (listing order list_size group_size) refl
@@ -298,10 +295,7 @@ ends-unlisted {order} {list_size} {group_size} pieces_size {answer} {list} {grou
       group_holds = P.group_holds ∙ ap (λ (o : Outcome Listing). (at o).group) q;
       pieces_holds = cleared;
     })
-    go (accepted found) q = absurd (not-moves (subst (λ (a : Answer). OneOf (1 ∷ 2 ∷ 3 ∷ []) (tag_of the_type a)) (P.answers ∙ ap (λ (o : Outcome Listing). (at o).answer) q) other))
-      where
-        not-moves : OneOf (1 ∷ 2 ∷ 3 ∷ []) 0 → ⊥
-        not-moves h = ⊎_elim (λ e. omega arith) (λ r. ⊎_elim (λ e. omega arith) (λ e. omega arith) r) h
+    go (accepted _) q = absurd (other _ _ _ _ (P.answers ∙ ap (λ (o : Outcome Listing). (at o).answer) q))
 
 -- ---- 14 to 16 with a listing in its areas
 module _ (n : ℕ) (numbers : Numbers) (list : List ℤ) (group : List ℕ) (vector : List ℤ) (pieces_size : ℕ) where

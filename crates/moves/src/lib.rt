@@ -1,5 +1,6 @@
 // The lent calls (Specification 1.1): List, Split and Check.
 #![tactic(auto)]
+
 ghost use Rattle.std.specs.Prelude.{◌≡◌, [], ◌∷◌, ◌*◌, ◌≤◌, length};
 ghost use Rattle.definitions.specs.Limits.{group_limit, list_limit};
 ghost use Rattle.definitions.specs.Refusals.{cells_fault, first_fault, refused, split_size_fault};

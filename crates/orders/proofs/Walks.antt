@@ -1,6 +1,5 @@
 -- The walk over the commands of an order: what is filled, and what is left (Specification 8.3). Assumes nothing.
 use mathlib.Core.Path.{◌≡◌, refl, sym, ap, subst, ◌∙◌}
-use mathlib.Core.Logic.{⊎_elim}
 use mathlib.Core.List.{List, [], ◌∷◌, ◌++◌, append_assoc, append-nil}
 use Prim.Native.Nat.{ℕ, zero, suc, ◌+◌, ◌*◌, ◌≤◌, ◌<◌}
 use native.Mathlib.Omega.{arith}
@@ -8,14 +7,11 @@ use native.Mathlib.Numerals.{add-one}
 use lib.IntN.{pos}
 use lib.ListN.{length, take, drop, get_or, set, length-append, length-drop, length-set}
 use lib.Seq.{paste, paste-zero, paste-suc, take_all, take_at, drop-append-add, drop-drop}
-use types.Run.{OneOf}
-use denote.Enum.Declared.{tag_of}
 use Rattle.definitions.specs.Lists.{range}
 use Rattle.theory.proofs.Lists.{get_d_map, get_or-range, range_length}
 use Rattle.theory.proofs.Members.{Each, each-cons}
 use Rattle.commands.specs.declared.Command.{Command}
 use Rattle.commands.specs.declared.Reading.{Reading}
-use Rattle.commands.specs.contracts.Reading.{the_type}
 use Rattle.commands.specs.declared.Reading.TheVariants.{Known, Unknown, Past}
 use Rattle.commands.specs.declared.Command.TheVariants.{Generator, Exchange, Row, Coefficients, Vector, Image}
 use Rattle.commands.specs.Commands.{generator_code, exchange_code, row_code, coefficients_code, vector_code, image_code, behind, code_of, command_at, command_of, operands_of, width_of}
@@ -217,14 +213,14 @@ module _ {A : Type 0} (code : ℕ) (decode : List ℕ → List A) (order : List 
         }
 
   -- no command is left
-  pub walk_end : (now : List A) (at filled : ℕ) {r : Reading} → Walk now at filled → r ≡ command_at order at → OneOf (1 ∷ 2 ∷ []) (tag_of the_type r) → now ≡ total ++ drop (length total) before
+  pub walk_end : (now : List A) (at filled : ℕ) {r : Reading} → Walk now at filled → r ≡ command_at order at → ((x : Command) → r ≡ Known x → ⊥) → now ≡ total ++ drop (length total) before
   unfolding gathered commands_from
   walk_end now at filled {r} w read none =
       let e : w.done ≡ total = sym (append-nil w.done) ∙ ap (λ (l : List Command). w.done ++ gathered code decode order l) (sym (over w.fuel)) ∙ w.all in
       w.held ∙ ap (λ (l : List A). l ++ drop (length l) before) e
     where
-      over_by : (r : Reading) (rest : Command → List Command) → OneOf (1 ∷ 2 ∷ []) (tag_of the_type r) → commands_by r rest ≡ []
-      over_by (Known x) rest h = absurd (⊎_elim (λ e. omega arith) (λ e. omega arith) h)
+      over_by : (r : Reading) (rest : Command → List Command) → ((x : Command) → r ≡ Known x → ⊥) → commands_by r rest ≡ []
+      over_by (Known x) rest h = absurd (h x refl)
       over_by Unknown rest h = refl
       over_by Past rest h = refl
 

@@ -1,5 +1,6 @@
 // The scan of an order file (Specification 8.2 and 8.3).
 #![tactic(auto)]
+
 ghost use Rattle.std.specs.Prelude.{◌≡◌, ◌+◌, ◌≤◌, ◌<◌, length};
 ghost use Rattle.commands.specs.Commands.{operands_of, width_of};
 ghost use Rattle.orders.specs.Grammar.{counted_by, is_image_due, may_close, may_stand, one_if, phase_after, too_many};

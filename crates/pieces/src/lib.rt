@@ -1,6 +1,7 @@
 // The pieces of a vector: the images of the listed rows are taken from it in turn, and each piece is written to a lent
 // area (Specification 4.1).
 #![tactic(auto)]
+
 ghost use Rattle.std.specs.Prelude.{◌≡◌, true, [], ◌∷◌, ◌*◌, ◌≤◌, ◌<◌, pos};
 ghost use Rattle.definitions.specs.Limits.{group_limit, list_limit, split_limit};
 ghost use Rattle.definitions.specs.Vector.{minus, scale, within};

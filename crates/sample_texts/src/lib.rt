@@ -1,5 +1,6 @@
 // What the programs that work sample calls print: a word and counts, an area row by row, and a group area.
 #![tactic(auto)]
+
 ghost use Rattle.std.specs.Prelude.{◌≤◌, length};
 
 use answers::{put_head, put_rows, put_text};

@@ -1,5 +1,6 @@
 // One order of a session (Specification 3.8): as many sums as steps name it, and its end, on its half of the list area.
 #![tactic(auto)]
+
 ghost use Rattle.std.specs.Prelude.{◌≡◌, length};
 ghost use Rattle.definitions.specs.Session.{half, steps_of};
 ghost use Rattle.moves.specs.Found.{Grouped};

@@ -1,5 +1,6 @@
 // A session (Specification 3.8): two orders on one group table, each on its half of one list area.
 #![tactic(auto)]
+
 ghost use Rattle.std.specs.Prelude.{◌≡◌, true, [], ◌∷◌, ◌+◌, ◌≤◌, length};
 ghost use Rattle.definitions.specs.declared.Fault.TheVariants.{None};
 ghost use Rattle.definitions.specs.Limits.{cells};

@@ -1,5 +1,6 @@
 // The tests of a brought list that meets none of 5 to 19: refusals 20, 21 and 22 (Specification 5.1 and 7.2).
 #![tactic(auto)]
+
 ghost use Rattle.std.specs.Prelude.{◌≡◌, true, ◌*◌, ◌/◌, ◌≤◌, length};
 ghost use Rattle.definitions.specs.Limits.{group_limit, list_limit};
 ghost use Rattle.definitions.specs.Vector.{within};

@@ -15,11 +15,11 @@ use Rattle.definitions.specs.declared.Run.TheVariants.{Answered, Refused}
 use Rattle.definitions.specs.declared.View.{View}
 use Rattle.definitions.specs.Limits.{cells, record_width, window_limit}
 use Rattle.definitions.specs.Lists.{concat}
-use Rattle.definitions.specs.Vector.{Vector, padded}
+use Rattle.definitions.specs.Vector.{padded}
 use Rattle.definitions.specs.Lent.{Order, filled, numbers_of, whole_rows}
 use Rattle.definitions.specs.Refusals.{accepted, refused}
 use Rattle.definitions.specs.Calls.{Listing, listing}
-use Rattle.definitions.specs.Window.{Chain, Room, Visit, WindowEnd, answer_rows, answer_width, chain_fault, chain_fits, drawn_end, draws_of, is_contingency, is_entry, run_end, visits, window_answered, window_call, window_of, window_refused}
+use Rattle.definitions.specs.Window.{Chain, Room, Visit, WindowEnd, answer_rows, answer_width, chain_fault, chain_fits, drawn_end, draws_of, is_contingency, is_entry, run_end, window_answered, window_call, window_of, window_refused}
 use Rattle.theory.proofs.Tests.{and-true-left, and-true-right}
 use Rattle.theory.proofs.Members.{Each, each_append, each-cons, each-every, each_from, each_nil}
 use Rattle.theory.proofs.Faults.{if_none, tests-none, where-none}

@@ -1,5 +1,6 @@
 // The window over a run of draws (Specification 3.9): the whole List, and then the records one by one.
 #![tactic(auto)]
+
 ghost use Rattle.vectors.specs.Areas.{sent_order};
 ghost use Rattle.moves.specs.Found.{Held};
 ghost use Rattle.windows.specs.Promise.{KeepsWindow, sent_chain};

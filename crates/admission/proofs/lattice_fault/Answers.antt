@@ -51,12 +51,16 @@ returns-then-images-eq0 c = let order = sent c.before.before.before.before in re
 pub images_fault-requires : goal.images_fault-requires
 unfolding exchanges_of
 images_fault-requires c =
-    let B = c.requires.numbered.sized.bare (bare (sent c.before.before.before) c.if-images-eq0.false) in record { cells = ((celled c.before.before.before).least, (celled c.before.before.before).most); valid = (fit c.before.before.before).exchanges; sizes = record {
-          bounded = record { entries = each_within entry_limit (fit c.before.before.before).limited; few = c.requires.numbered.sized.generators };
-          few = B.few;
-          exchanges_few = c.requires.numbered.sized.exchanges;
-          one_each = B.one_each;
-        } }
+    let B = c.requires.numbered.sized.bare (bare (sent c.before.before.before) c.if-images-eq0.false) in record {
+      cells = ((celled c.before.before.before).least, (celled c.before.before.before).most);
+      valid = (fit c.before.before.before).exchanges;
+      sizes = record {
+        bounded = record { entries = each_within entry_limit (fit c.before.before.before).limited; few = c.requires.numbered.sized.generators };
+        few = B.few;
+        exchanges_few = c.requires.numbered.sized.exchanges;
+        one_each = B.one_each;
+      };
+    }
 
 pub returns : goal.returns
 unfolding lattice_fault generators_of exchanges_of

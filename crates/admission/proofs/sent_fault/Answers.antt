@@ -2,24 +2,12 @@
 use mathlib.Core.Path.{◌≡◌, sym, ◌∙◌, ap₂}
 use mathlib.Core.List.{[], ◌∷◌}
 use Rattle.definitions.specs.declared.Fault.{Fault}
-use Rattle.definitions.specs.declared.Fault.TheVariants.{None}
 use Rattle.definitions.specs.Lent.{exchanges_of, generators_of, order_of}
 use Rattle.definitions.specs.Refusals.{cells_fault, first_fault, numbers_fault, size_fault}
 use Rattle.theory.proofs.Faults.{first-append, met-first, tests-none, unmet-second}
 use Rattle.theory.proofs.Accepted.{cells-none}
-use borrow.Author.Rules.{rules}
 use Rattle.admission.proofs.sent_fault.Goals as goal
-use Rattle.admission.proofs.sent_fault.Lts
-use Rattle.admission.proofs.sent_fault.Reads
-use Rattle.admission.proofs.sent_fault.Tie
-
--- what is known at the places that the lemmas below are about
-abbrev After-first_met-fault : Type 0
-After-first_met-fault = Lts.After-first_met Tie.the-claims Reads.Pre Reads.Post Tie.handed_clauses
-
--- TODO no goal enum-told
--- enum_told : tie.Need-enum-told
--- enum_told c = search rules
+use Rattle.admission.proofs.sent_fault.Goals.{After-first_met-fault}
 
 -- what 5 and 6 came to
 early : (c : After-first_met-fault) →
@@ -27,11 +15,11 @@ early : (c : After-first_met-fault) →
 early c = c.first_met-fault.ensures.found ∙ ap₂ (λ (x y : Fault). first_fault (x ∷ y ∷ [])) c.cells_fault-celled.ensures.found c.size_fault-sized.ensures.found
 
 pub numbers_fault-requires : goal.numbers_fault-requires
-numbers_fault-requires c = let d = cells-none _ (tests-none _ _ (sym (early c.before.before.before) ∙ c.enum_told-1.given.1)).0 in record { celled = (d.least, d.most) }
+numbers_fault-requires c = let d = cells-none _ (tests-none _ _ (sym (early (goal.at.numbers_fault-requires c).After-first_met-fault) ∙ c.in-None.is)).0 in record { celled = (d.least, d.most) }
 
 pub returns-in-At : goal.returns-in-At
-returns-in-At c = record { met = met-first _ _ _ (sym (early c.before.before.before.before) ∙ c.fault-1.given.1) ∙ sym (first-append (_ ∷ _ ∷ []) (_ ∷ [])) }
+returns-in-At c = record { met = met-first _ _ _ (sym (early (goal.at.returns-in-At c).After-first_met-fault) ∙ c.in-At.is) ∙ sym (first-append (_ ∷ _ ∷ []) (_ ∷ [])) }
 
 pub returns-in-None : goal.returns-in-None
 unfolding numbers_fault generators_of exchanges_of
-returns-in-None c = record { met = c.numbers_fault.ensures.met ∙ unmet-second _ (sym (early c.before.before.before.before) ∙ c.enum_told-1.given.1) ∙ sym (first-append (_ ∷ _ ∷ []) (_ ∷ [])) }
+returns-in-None c = record { met = c.numbers_fault.ensures.met ∙ unmet-second _ (sym (early (goal.at.returns-in-None c).After-first_met-fault) ∙ c.in-None.is) ∙ sym (first-append (_ ∷ _ ∷ []) (_ ∷ [])) }

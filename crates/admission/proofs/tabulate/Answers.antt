@@ -1,10 +1,8 @@
 -- `tabulate` meets its contract, case by case. Assumes nothing.
 use mathlib.Core.Path.{◌≡◌, sym, ◌∙◌, ap, ap₂, subst}
-use mathlib.Core.List.{List}
 use Prim.Native.Nat.{ℕ, ◌*◌, ◌≤◌}
 use native.Mathlib.Omega.{arith}
 use lib.ListN.{length}
-use Rattle.definitions.specs.declared.Fault.{Fault}
 use Rattle.definitions.specs.Limits.{group_limit}
 use Rattle.definitions.specs.Group.{group_table}
 use Rattle.definitions.specs.Lent.{Order, exchanges_of, group_rows, order_of, table_of}
@@ -14,16 +12,8 @@ use Rattle.group.specs.Answer.{area_of, members_of}
 use Rattle.group.proofs.Answers.{built-large, built-members}
 use Rattle.admission.specs.Admission.{admission_of}
 use Rattle.admission.proofs.Tests.{rows_inside, tabled-large, tabled-members}
-use borrow.Author.Rules.{rules}
 use Rattle.admission.proofs.tabulate.Goals as goal
-use Rattle.admission.proofs.tabulate.Goals.{Start}
-use Rattle.admission.proofs.tabulate.Lts
-use Rattle.admission.proofs.tabulate.Reads
-use Rattle.admission.proofs.tabulate.Tie
-
--- what is known at the places that the lemmas below are about
-abbrev After-group_table-built : Type 0
-After-group_table-built = Lts.After-group_table Tie.the-claims Reads.Pre Reads.Post Tie.handed_clauses
+use Rattle.admission.proofs.tabulate.Goals.{Start, After-group_table-built}
 
 -- the order that was sent, and the group area's size
 module _ (s : Start) where
@@ -39,7 +29,7 @@ module _ (s : Start) where
 -- what is built, by the definition's limit
 module _ (c : After-group_table-built) where
   abbrev start : Start
-  start = c.before.before.before.before.before
+  start = c.before.before.before.before.before.before
 
   limit_is : c.rows_up_to-limit.result ≡ group_rows start.args.n (size start)
   unfolding group_rows
@@ -59,33 +49,28 @@ rows_up_to-limit-requires c = record { some = (cells-none _ c.requires.numbered.
 pub group_table-built-requires : goal.group_table-built-requires
 unfolding exchanges_of
 group_table-built-requires c =
-    let d = cells-none _ c.requires.numbered.cells_pass in record { areas = record {
+    let d = cells-none _ c.requires.numbered.cells_pass in record {
+      areas = record {
         some = d.least;
         most = d.most;
         few = omega (arith, c.rows_up_to-limit.ensures.counted);
         room = subst (λ (l : ℕ). l * c.args.n ≤ size c.before.before.before.before.before) (sym c.rows_up_to-limit.ensures.counted) (rows_inside group_limit c.args.n (size c.before.before.before.before.before));
-      }; valid = (fit c.before.before.before.before.before).exchanges }
-
--- TODO no goal enum-told
--- enum_told : tie.Need-enum-told
--- enum_told c = search rules
+      };
+      valid = (fit c.before.before.before.before.before).exchanges;
+    }
 
 pub lattice_fault-requires : goal.lattice_fault-requires
 lattice_fault-requires c = record { numbered = c.requires.numbered }
 
--- TODO no goal same-length
--- same_length : tie.Need-same-length
--- same_length c = search rules
-
 pub returns-in-TooLarge : goal.returns-in-TooLarge
-returns-in-TooLarge c = record { tabled = tabled-large (sent c.before.before.before.before.before.before.before.before.before.before) (size c.before.before.before.before.before.before.before.before.before.before) (built-large _ _ (sym (built-is c.before.before.before.before.before) ∙ c.enum_told-1.given.1)) }
-
--- TODO no goal same-length-2
--- same-length-2 : tie.Need-same-length-2
--- same-length-2 c = search rules
+returns-in-TooLarge c =
+    let t = (goal.at.returns-in-TooLarge c).After-group_table-built in record { tabled = tabled-large (sent (start t)) (size (start t)) (built-large _ _ (sym (built-is t) ∙ c.in-TooLarge.is)) }
 
 pub returns-in-Members : goal.returns-in-Members
 unfolding area_of
 returns-in-Members c =
-    let m = built-members _ _ _ (sym (built-is c.before.before.before.before.before.before.before.before) ∙ c.built-1.given.1) in record { tabled = tabled-members (sent c.before.before.before.before.before.before.before.before.before.before.before.before.before) (size c.before.before.before.before.before.before.before.before.before.before.before.before.before) _ m.1 (λ h. area-is c.before.before.before.before.before.before.before.before _ c.built-1.given.1)
-    (c.unless_met.ensures.told ∙ ap₂ admission_of c.lattice_fault.ensures.met m.0) }
+    let t = (goal.at.returns-in-Members c).After-group_table-built in
+    let m = built-members _ _ _ (sym (built-is t) ∙ c.in-Members.is) in record {
+      tabled = tabled-members (sent (start t)) (size (start t)) _ m.1 (λ h. area-is t _ c.in-Members.is)
+          (c.unless_met.ensures.told ∙ ap₂ admission_of c.lattice_fault.ensures.met m.0);
+    }

@@ -2,15 +2,10 @@
 use mathlib.Core.Path.{sym, ap}
 use Rattle.definitions.specs.declared.Fault.{Fault}
 use Rattle.admission.specs.Admission.{admission_of}
-use borrow.Author.Rules.{rules}
 use Rattle.admission.proofs.unless_met.Goals as goal
 
--- TODO no goal enum-told
--- enum_told : tie.Need-enum-told
--- enum_told c = search rules
-
 pub returns-in-At : goal.returns-in-At
-returns-in-At c = record { told = sym (ap (λ (f : Fault). admission_of f c.args.g) c.fault-1.given.1) }
+returns-in-At c = record { told = sym (ap (λ (f : Fault). admission_of f c.args.g) c.in-At.is) }
 
 pub returns-in-None : goal.returns-in-None
-returns-in-None c = record { told = sym (ap (λ (f : Fault). admission_of f c.args.g) c.enum_told-1.given.1) }
+returns-in-None c = record { told = sym (ap (λ (f : Fault). admission_of f c.args.g) c.in-None.is) }

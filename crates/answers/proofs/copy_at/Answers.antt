@@ -1,7 +1,7 @@
 -- `copy_at` meets its contract. The invariant: the first i bytes of the text are copied. Assumes nothing.
 use mathlib.Core.Path.{◌≡◌, refl, sym, ◌∙◌, ap}
 use mathlib.Core.List.{List}
-use Prim.Native.Nat.{ℕ, ◌+◌, ◌-◌, ◌≤◌}
+use Prim.Native.Nat.{ℕ, ◌+◌}
 use native.Mathlib.Omega.{arith}
 use native.Mathlib.Numerals.{add-one}
 use lib.ListN.{length, get_or, set, length-set}
@@ -34,10 +34,6 @@ loop-i-preserved c =
     paste-suc a.area.now a.at a.text.now o.i 0 (omega arith) (omega arith)
     ∙ ap (paste a.area.now a.at a.text.now) (sym (add-one o.i)) in
     (omega arith, simp length-set (omega arith), ap (λ (l : List ℕ). set l (a.at + o.i) (get_or a.text.now o.i 0)) o.invariant.2 ∙ next)
-
--- TODO no goal same-length
--- same_length : tie.Need-same-length invariant-loop decreases-loop
--- same_length c = c.before.loop.invariant.1
 
 pub returns : goal.returns
 returns c =

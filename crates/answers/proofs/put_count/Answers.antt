@@ -1,13 +1,10 @@
 -- `put_count` meets its contract. Assumes nothing.
-use borrow.Author.Rules.{rules}
 use Rattle.answers.proofs.Pages.{wrote-append}
 use Rattle.answers.proofs.put_count.Goals as goal
 
--- TODO no goal same-length
--- same_length : tie.Need-same-length
--- same_length c = search rules
-
 pub returns : goal.returns
 returns c =
-    record { wrote = wrote-append c.put_byte-next.ensures.wrote
-    c.put_natural.ensures.wrote }
+    record {
+      wrote = wrote-append c.put_byte-next.ensures.wrote
+          c.put_natural.ensures.wrote;
+    }

@@ -6,7 +6,6 @@ use mir.Syntax.{w32}
 use mir.Val.{SFits}
 use mir.ValLaws.{to_z-of_z}
 use lib.ListN.{get_or}
-use borrow.Author.Rules.{rules}
 use Rattle.answers.specs.Text.{decimalℤ}
 use Rattle.answers.specs.Answers.{space}
 use Rattle.vectors.proofs.Cells.{wide_fits, wide_read}
@@ -24,21 +23,17 @@ overflow_cast-z c =
     let f : SFits w32 (number c.before.before.before) = record { sfits = c.z-1.given } in
     rw (to_z-of_z w32 (number c.before.before.before) f) (wide_fits _ f)
 
--- TODO no goal same-length
--- same_length : tie.Need-same-length
--- same_length c = search rules
-
 pub returns-then-j-eq0 : goal.returns-then-j-eq0
 returns-then-j-eq0 c =
-    record { wrote = wrote_as c.put_integer.ensures.wrote
-    (ap decimalℤ (wide_read (number c.before.before.before.before.before.before.before.before) (record { sfits = c.z-1.given })) ∙ placed_first c.args.line.now c.args.j c.if-j-eq0.true) }
-
--- TODO no goal same-length-2
--- same-length-2 : tie.Need-same-length-2
--- same-length-2 c = search rules
+    record {
+      wrote = wrote_as c.put_integer.ensures.wrote
+          (ap decimalℤ (wide_read (number c.before.before.before.before.before.before.before.before) (record { sfits = c.z-1.given })) ∙ placed_first c.args.line.now c.args.j c.if-j-eq0.true);
+    }
 
 pub returns : goal.returns
 returns c =
-    record { wrote = wrote_as
-    (wrote-append c.put_byte-next.ensures.wrote c.put_integer-2.ensures.wrote)
-    (ap (λ (z : ℤ). space ∷ decimalℤ z) (wide_read (number c.before.before.before.before.before.before.before.before.before.before.before.before) (record { sfits = c.z-1.given })) ∙ placed-next c.args.line.now c.args.j c.if-j-eq0.false) }
+    record {
+      wrote = wrote_as
+          (wrote-append c.put_byte-next.ensures.wrote c.put_integer-2.ensures.wrote)
+          (ap (λ (z : ℤ). space ∷ decimalℤ z) (wide_read (number c.before.before.before.before.before.before.before.before.before.before.before.before) (record { sfits = c.z-1.given })) ∙ placed-next c.args.line.now c.args.j c.if-j-eq0.false);
+    }

@@ -1,14 +1,14 @@
 -- `put_head` meets its contract. The invariant: the word and the first i counts are written. Assumes nothing.
 use mathlib.Core.Path.{◌≡◌, ◌∙◌, ap}
 use mathlib.Core.List.{List, [], ◌∷◌, ◌++◌, map}
-use Prim.Native.Nat.{ℕ, ◌-◌, ◌≤◌}
+use Prim.Native.Nat.{ℕ}
 use native.Mathlib.Omega.{arith}
 use lib.ListN.{length, take}
 use lib.Seq.{take-length}
 use Rattle.definitions.specs.Lists.{concat}
 use Rattle.answers.specs.Answers.{line_feed, count_text, head_text}
 use Rattle.answers.specs.Page.{Wrote}
-use Rattle.answers.proofs.Pages.{wrote_none, wrote-append, wrote_as, wrote-length}
+use Rattle.answers.proofs.Pages.{wrote_none, wrote-append, wrote_as}
 use Rattle.answers.proofs.Lines.{texts-more}
 use Rattle.answers.proofs.put_head.Goals as goal
 use Rattle.answers.proofs.put_head.Lts
@@ -49,13 +49,11 @@ whole c =
     wrote-append (wrote-append c.put_text-end.ensures.wrote c.loop-i.invariant.1)
     c.put_byte.ensures.wrote
 
--- TODO no goal same-length
--- same_length : tie.Need-same-length invariant-loop decreases-loop
--- same_length c = wrote-length (whole c)
-
 pub returns : goal.returns
 unfolding head_text
 returns c =
     let s = c.args in
-    let e : c.loop-i.i ≡ length s.counts.now = omega arith in record { wrote = wrote_as (whole c.before)
-    (ap (λ (l : List ℕ). s.word.now ++ concat (map count_text l) ++ (line_feed ∷ [])) (ap (λ (k : ℕ). take k s.counts.now) e ∙ take-length s.counts.now)) }
+    let e : c.loop-i.i ≡ length s.counts.now = omega arith in record {
+      wrote = wrote_as (whole c.before)
+          (ap (λ (l : List ℕ). s.word.now ++ concat (map count_text l) ++ (line_feed ∷ [])) (ap (λ (k : ℕ). take k s.counts.now) e ∙ take-length s.counts.now));
+    }

@@ -5,7 +5,6 @@ use Prim.Native.Nat.{ℕ}
 use lib.IntN.{nat_abs}
 use mir.Syntax.{w64}
 use mir.ValLaws.{to_z-of_z}
-use borrow.Author.Rules.{rules}
 use Rattle.answers.specs.Text.{minus_sign, decimal}
 use Rattle.answers.proofs.Pages.{wrote-append, wrote_as}
 use Rattle.answers.proofs.Absolute.{negative, positive}
@@ -22,21 +21,17 @@ After-magnitude-size = Lts.After-magnitude Tie.the-claims Reads.Pre Reads.Post T
 size : (c : After-magnitude-size) → c.magnitude-size.result ≡ nat_abs c.args.z
 size c = c.magnitude-size.ensures.absolute ∙ ap nat_abs (to_z-of_z w64 c.args.z c.ranges.z)
 
--- TODO no goal same-length
--- same_length : tie.Need-same-length
--- same_length c = search rules
-
 pub returns-then-z-lt0 : goal.returns-then-z-lt0
 returns-then-z-lt0 c =
-    record { wrote = wrote_as
-    (wrote-append c.put_byte-next.ensures.wrote c.put_natural.ensures.wrote)
-    (ap (λ (n : ℕ). minus_sign ∷ decimal n) (size c.before.before.before.before.before.before.before.before.before.before) ∙ sym (negative c.args.z c.ranges.z c.if-z-lt0.true).text) }
-
--- TODO no goal same-length-2
--- same-length-2 : tie.Need-same-length-2
--- same-length-2 c = search rules
+    record {
+      wrote = wrote_as
+          (wrote-append c.put_byte-next.ensures.wrote c.put_natural.ensures.wrote)
+          (ap (λ (n : ℕ). minus_sign ∷ decimal n) (size c.before.before.before.before.before.before.before.before.before.before) ∙ sym (negative c.args.z c.ranges.z c.if-z-lt0.true).text);
+    }
 
 pub returns : goal.returns
 returns c =
-    record { wrote = wrote_as c.put_natural-2.ensures.wrote
-    (ap decimal (size c.before.before.before.before.before.before) ∙ sym (positive c.args.z c.ranges.z c.if-z-lt0.false).text) }
+    record {
+      wrote = wrote_as c.put_natural-2.ensures.wrote
+          (ap decimal (size c.before.before.before.before.before.before) ∙ sym (positive c.args.z c.ranges.z c.if-z-lt0.false).text);
+    }

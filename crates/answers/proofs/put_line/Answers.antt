@@ -1,13 +1,12 @@
 -- `put_line` meets its contract. The invariant: the first j numbers are written. Assumes nothing.
 use mathlib.Core.Path.{◌≡◌, ◌∙◌, ap}
 use mathlib.Core.List.{List, [], ◌∷◌, ◌++◌}
-use Prim.Native.Nat.{ℕ, ◌-◌, ◌≤◌}
+use Prim.Native.Nat.{ℕ}
 use native.Mathlib.Omega.{arith}
 use lib.ListN.{length, take}
 use lib.Seq.{take-length}
 use Rattle.answers.specs.Answers.{line_feed, numbers_text, line_text}
-use Rattle.answers.specs.Page.{Wrote}
-use Rattle.answers.proofs.Pages.{wrote_none, wrote-append, wrote_as, wrote-length}
+use Rattle.answers.proofs.Pages.{wrote_none, wrote-append, wrote_as}
 use Rattle.answers.proofs.Lines.{numbers_more}
 use Rattle.answers.proofs.put_line.Goals as goal
 
@@ -30,16 +29,12 @@ loop-j-preserved c =
     let line = c.args.line.now in
     (omega arith, wrote_as (wrote-append o.invariant.1 c.put_entry-end.ensures.wrote) (numbers_more line o.j (omega arith)))
 
--- TODO no goal same-length
--- same_length : tie.Need-same-length invariant-loop decreases-loop
--- same_length c =
---     wrote-length c.before.before.put_byte.ensures
---     ∙ wrote-length c.before.before.before.before.before.loop.invariant.1
-
 pub returns : goal.returns
 unfolding line_text
 returns c =
     let o = c.loop-j in
     let line = c.args.line.now in
-    let e : o.j ≡ length line = omega arith in record { wrote = wrote_as (wrote-append o.invariant.1 c.put_byte.ensures.wrote)
-    (ap (λ (l : List _). numbers_text l ++ (line_feed ∷ [])) (ap (λ (k : ℕ). take k line) e ∙ take-length line)) }
+    let e : o.j ≡ length line = omega arith in record {
+      wrote = wrote_as (wrote-append o.invariant.1 c.put_byte.ensures.wrote)
+          (ap (λ (l : List _). numbers_text l ++ (line_feed ∷ [])) (ap (λ (k : ℕ). take k line) e ∙ take-length line));
+    }

@@ -1,13 +1,12 @@
 -- `put_rows` meets its contract. The invariant: the first i rows are written. Assumes nothing.
 use mathlib.Core.Path.{◌≡◌, ap}
-use Prim.Native.Nat.{ℕ, ◌+◌, ◌-◌, ◌*◌, ◌≤◌}
+use Prim.Native.Nat.{ℕ, ◌+◌, ◌*◌, ◌≤◌}
 use native.Mathlib.Nat.{mul-le-mul_right}
 use native.Mathlib.Omega.{arith}
 use Rattle.definitions.specs.Lists.{concat}
 use Rattle.definitions.specs.Lent.{chunks}
 use Rattle.answers.specs.Answers.{lines_text}
-use Rattle.answers.specs.Page.{Wrote}
-use Rattle.answers.proofs.Pages.{wrote_none, wrote-append, wrote_as, wrote-length}
+use Rattle.answers.proofs.Pages.{wrote_none, wrote-append, wrote_as}
 use Rattle.answers.proofs.Lines.{lines_more}
 use Rattle.answers.proofs.put_rows.Goals as goal
 use Rattle.answers.proofs.put_rows.Goals.{In-loop-i}
@@ -54,10 +53,6 @@ loop-i-preserved c =
       wrote_as (wrote-append o.invariant.2 c.put_line-end.ensures.wrote)
           (lines_more s.width o.i o.from s.numbers.now o.invariant.1),
     )
-
--- TODO no goal same-length
--- same_length : tie.Need-same-length invariant-loop decreases-loop
--- same_length c = wrote-length c.before.loop.invariant.2
 
 pub returns : goal.returns
 returns c =

@@ -1,14 +1,9 @@
 -- `put_rows` meets its contract. The invariant: the first i rows are written. Assumes nothing.
-use mathlib.Core.Path.{◌≡◌, ap}
-use Prim.Native.Nat.{ℕ, ◌+◌, ◌-◌, ◌*◌, ◌≤◌}
-use native.Mathlib.Nat.{mul-le-mul_right}
-use native.Mathlib.Omega.{arith}
-use Rattle.definitions.specs.Lists.{concat}
+use mathlib.Core.Path.{◌≡◌}
+use Prim.Native.Nat.{◌-◌, ◌*◌, ◌≤◌}
 use Rattle.definitions.specs.Lent.{chunks}
 use Rattle.answers.specs.Answers.{lines_text}
 use Rattle.answers.specs.Page.{Wrote}
-use Rattle.answers.proofs.Pages.{wrote_none, wrote-append, wrote_as, wrote-length}
-use Rattle.answers.proofs.Lines.{lines_more}
 use Rattle.answers.proofs.put_rows.Given as goal
 
 abbrev pub invariant-loop-i : goal.invariant-loop-i

@@ -3,36 +3,31 @@ use mathlib.Core.Path.{sym, ◌∙◌}
 use Prim.Native.Nat.{◌-◌, ◌<◌, ◌≤◌}
 use native.Mathlib.Omega.{arith}
 use lib.ListN.{length}
-use borrow.Author.Rules.{rules}
 use Rattle.theory.proofs.Areas.{filled-nothing}
 use Rattle.answers.proofs.Pages.{written-yes, written-no, behind-yes, behind-no}
 use Rattle.answers.proofs.put_text.Goals as goal
-
--- TODO no goal same-length
--- same_length : tie.Need-same-length
--- same_length c = search rules
 
 pub returns-then-room-m : goal.returns-then-room-m
 returns-then-room-m c =
     let a = c.args in
     let n = length a.area.now in
-    let h : n - a.at < length a.text.now = omega arith in record { wrote = record {
-      page =
-          c.clear_bytes.ensures.cleared
-          ∙ filled-nothing 0 n
-          ∙ sym (written-no a.area.now a.at a.text.now h);
-      place = sym (behind-no n a.at a.text.now h);
-    } }
-
--- TODO no goal same-length-2
--- same-length-2 : tie.Need-same-length-2
--- same-length-2 c = search rules
+    let h : n - a.at < length a.text.now = omega arith in record {
+      wrote = record {
+        page =
+            c.clear_bytes.ensures.cleared
+            ∙ filled-nothing 0 n
+            ∙ sym (written-no a.area.now a.at a.text.now h);
+        place = sym (behind-no n a.at a.text.now h);
+      };
+    }
 
 pub returns : goal.returns
 returns c =
     let a = c.args in
     let n = length a.area.now in
-    let h : length a.text.now ≤ n - a.at = omega arith in record { wrote = record {
-      page = c.copy_at.ensures.copied ∙ sym (written-yes a.area.now a.at a.text.now h);
-      place = sym (behind-yes n a.at a.text.now h);
-    } }
+    let h : length a.text.now ≤ n - a.at = omega arith in record {
+      wrote = record {
+        page = c.copy_at.ensures.copied ∙ sym (written-yes a.area.now a.at a.text.now h);
+        place = sym (behind-yes n a.at a.text.now h);
+      };
+    }

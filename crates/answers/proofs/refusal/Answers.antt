@@ -6,7 +6,6 @@ use lib.IntN.{pos, neg_ℤ, ◌-ℤ◌}
 use mir.Syntax.{w64}
 use mir.Val.{to_z}
 use mir.ValLaws.{to_z-of_z}
-use borrow.Author.Rules.{rules}
 use Rattle.vectors.proofs.Negatives.{negated, negated_fits}
 use Rattle.answers.specs.Refusal.{refusal_of}
 use Rattle.answers.proofs.refusal.Goals as goal
@@ -18,6 +17,8 @@ pub returns : goal.returns
 unfolding refusal_of
 returns c =
     let n = c.refusal_code.result in
-    let h : n < 2 ^ 63 = omega arith in record { refused = to_z-of_z w64 (pos 0 -ℤ to_z w64 n) (negated_fits n h)
-    ∙ negated n h
-    ∙ ap (λ (k : ℕ). neg_ℤ (pos k)) c.refusal_code.ensures.code }
+    let h : n < 2 ^ 63 = omega arith in record {
+      refused = to_z-of_z w64 (pos 0 -ℤ to_z w64 n) (negated_fits n h)
+          ∙ negated n h
+          ∙ ap (λ (k : ℕ). neg_ℤ (pos k)) c.refusal_code.ensures.code;
+    }

@@ -1,11 +1,10 @@
 -- `combination` meets its contract. The invariant: the cells up to `j` are those of the combination, and the others
 -- zero. Assumes nothing.
 use mathlib.Core.Path.{◌≡◌, sym, ◌∙◌}
-use Prim.Native.Nat.{◌≤◌, ◌-◌}
 use native.Mathlib.Omega.{arith}
 use lib.IntN.{pos}
 use lib.ListN.{length, take}
-use lib.Seq.{get_or-take, length-take-le, paste, paste-zero}
+use lib.Seq.{get_or-take, length-take-le, paste-zero}
 use mir.Syntax.{w64}
 use mir.Val.{to_z, of_z}
 use mir.Facts.{to_z-of_z}
@@ -34,7 +33,8 @@ pub loop-j-init : goal.loop-j-init
 loop-j-init c = (omega arith, paste-zero _ 0 (part c))
 
 pub combined_cell-requires : goal.combined_cell-requires
-combined_cell-requires c = ((c.requires.cells, c.loop-j-test.true), c.requires.1)
+combined_cell-requires c =
+    record { cells = (c.requires.cells, c.loop-j-test.true); sizes = c.requires.sizes; small = c.requires.small }
 
 pub offset_bounds-sum-j : goal.offset_bounds-sum-j
 offset_bounds-sum-j c = omega arith
@@ -53,7 +53,7 @@ loop-j-preserved c =
     let j = c.loop-j.j in
     let l = part-long c.before.before.before in
     let read : to_z w64 (of_z w64 c.combined_cell.result) ≡ cell_at (part c.before.before.before) j =
-    to_z-of_z (record { sfits = c.combined_cell.type_inv })
+    to_z-of_z {w = w64} (record { sfits = c.combined_cell.type_inv })
     ∙ c.combined_cell.ensures.made
     ∙ sym (get_or-take c.args.n (whole c.before.before.before) j (pos 0) (omega arith)) in
     (omega arith, fill _ (part c.before.before.before) j c.loop-j.invariant.1 read (omega arith) (omega arith))
@@ -61,5 +61,7 @@ loop-j-preserved c =
 pub returns : goal.returns
 returns c =
     let l = part-long c.before.before in
-    let numbers = c.args.generators.now in record { made = filled-zeros (part c.before.before) c.loop-j.j c.loop-j.invariant.1 (omega arith)
-    ∙ sum-padded c.args.coefficients.now c.args.n numbers c.requires.cells c.requires.sizes.one_each }
+    let numbers = c.args.generators.now in record {
+      made = filled-zeros (part c.before.before) c.loop-j.j c.loop-j.invariant.1 (omega arith)
+          ∙ sum-padded c.args.coefficients.now c.args.n numbers c.requires.cells c.requires.sizes.one_each;
+    }

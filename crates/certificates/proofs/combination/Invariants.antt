@@ -1,19 +1,11 @@
 -- `combination` meets its contract. The invariant: the cells up to `j` are those of the combination, and the others
 -- zero. Assumes nothing.
-use mathlib.Core.Path.{◌≡◌, sym, ◌∙◌}
+use mathlib.Core.Path.{◌≡◌}
 use Prim.Native.Nat.{◌≤◌, ◌-◌}
-use native.Mathlib.Omega.{arith}
-use lib.IntN.{pos}
-use lib.ListN.{length, take}
-use lib.Seq.{get_or-take, length-take-le, paste, paste-zero}
-use mir.Syntax.{w64}
-use mir.Val.{to_z, of_z}
-use mir.Facts.{to_z-of_z}
-use Rattle.definitions.specs.Vector.{Vector}
+use lib.ListN.{take}
+use lib.Seq.{paste}
 use Rattle.definitions.specs.Lattice.{combination}
 use Rattle.definitions.specs.Lent.{vectors_of}
-use Rattle.vectors.proofs.Kit.{cell_at, fill, filled-zeros}
-use Rattle.certificates.proofs.Sums.{sum-long, sum-padded}
 use Rattle.certificates.proofs.combination.Given as goal
 
 abbrev pub invariant-loop-j : goal.invariant-loop-j

@@ -2,9 +2,9 @@
 -- cell, and a sum of q products is small. Assumes nothing.
 use mathlib.Core.Path.{◌≡◌, sym, ap, ◌∙◌}
 use mathlib.Core.List.{List}
-use Prim.Native.Nat.{ℕ, ◌+◌, ◌-◌, ◌*◌, ◌/◌, ◌≤◌, ◌<◌}
+use Prim.Native.Nat.{ℕ, ◌+◌, ◌*◌, ◌/◌, ◌≤◌, ◌<◌}
 use native.Mathlib.Omega.{arith}
-use lib.IntN.{ℤ, pos, nat_abs, ◌+ℤ◌, ◌*ℤ◌, +ℤ_idl, +ℤ_idr, +ℤ_assoc}
+use lib.IntN.{ℤ, pos, ◌+ℤ◌, ◌*ℤ◌, +ℤ_idl, +ℤ_idr, +ℤ_assoc}
 use lib.ListN.{length, drop, get_or}
 use mir.Syntax.{w64}
 use mir.Val.{to_z}
@@ -17,7 +17,7 @@ use Rattle.theory.proofs.CheckCall.{vectors-count}
 use Rattle.vectors.proofs.Cells.{read_back, wide_fits}
 use Rattle.vectors.proofs.Rows.{row_room}
 use Rattle.certificates.proofs.Sums.{combined_at, combined-turn, combined-end, generator-at, coefficient-small}
-use Rattle.certificates.proofs.Sums.{term_limit, Small, term_fits, sum-small, sum_fits, sum-read}
+use Rattle.certificates.proofs.Sums.{Small, term_fits, sum-small, sum_fits, sum-read}
 use Rattle.certificates.proofs.combined_cell.Goals as goal
 use Rattle.certificates.proofs.combined_cell.Goals.{Start}
 
@@ -103,7 +103,7 @@ overflow_mul-sum c = term_fits (term_in c.before.before.before.before c.loop-q.q
 pub overflow_add-sum : goal.overflow_add-sum
 overflow_add-sum c =
     let q = c.loop-q.q in
-    sum_fits (term_in c.before.before.before.before q (omega arith)) (to_z w64 c.loop-q.sum) q c.loop-q.invariant.1
+    sum_fits (term_in c.before.before.before.before q (omega arith)) (to_z w64 c.loop-q.sum-bits) q c.loop-q.invariant.1
     (omega (arith, c.requires.sizes.one_each, c.requires.sizes.bounded.few))
 
 pub overflow_add-q : goal.overflow_add-q
@@ -115,7 +115,7 @@ loop-q-smaller c = omega arith
 pub loop-q-preserved : goal.loop-q-preserved
 loop-q-preserved c =
     let q = c.loop-q.q in
-    let sum = to_z w64 c.loop-q.sum in
+    let sum = to_z w64 c.loop-q.sum-bits in
     let few : q < generator_limit = omega (arith, c.requires.sizes.one_each, c.requires.sizes.bounded.few) in
     let term = term_in c.before.before.before.before q (omega arith) in
     let read = sum-read term sum q c.loop-q.invariant.1 few in (
@@ -126,6 +126,8 @@ loop-q-preserved c =
 
 pub returns : goal.returns
 returns c =
-    let sum = to_z w64 c.loop-q.sum in record { made = sym (+ℤ_idr sum)
-    ∙ ap (λ (z : ℤ). sum +ℤ z) (sym (combined-end (coefficients c.before.before) (vs c.before.before) (j c.before.before) c.loop-q.q (omega arith)))
-    ∙ c.loop-q.invariant.2 }
+    let sum = to_z w64 c.loop-q.sum-bits in record {
+      made = sym (+ℤ_idr sum)
+          ∙ ap (λ (z : ℤ). sum +ℤ z) (sym (combined-end (coefficients c.before.before) (vs c.before.before) (j c.before.before) c.loop-q.q (omega arith)))
+          ∙ c.loop-q.invariant.2;
+    }

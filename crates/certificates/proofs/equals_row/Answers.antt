@@ -1,13 +1,11 @@
 -- `equals_row` meets its contract. The invariant: the cells up to `j` are those of the row. Assumes nothing.
 use mathlib.Core.Path.{◌≡◌, sym, ap, ◌∙◌}
-use Prim.Native.Nat.{ℕ, ◌-◌, ◌≤◌, ◌<◌}
+use Prim.Native.Nat.{ℕ}
 use native.Mathlib.Omega.{arith}
 use lib.IntN.{ℤ}
 use mir.Syntax.{w32, w64}
 use mir.Val.{to_z, of_z}
 use mir.Facts.{to_z-of_z}
-use Rattle.definitions.specs.Limits.{cells}
-use Rattle.definitions.specs.Vector.{Vector}
 use Rattle.vectors.proofs.Cells.{read_back, wide_fits, wide_read}
 use Rattle.vectors.proofs.Kit.{cell_at}
 use Rattle.certificates.proofs.Sums.{same_more, same-all, same_not}
@@ -49,7 +47,7 @@ module _ (c : After-entry-1) where
   -- they have the same bits: so they are the same
   same : of_z w64 cell ≡ of_z w64 (to_z w32 (of_z w32 entry)) → cell ≡ entry
   same h =
-      sym (to_z-of_z (record { sfits = c.cell-1.given }))
+      sym (to_z-of_z {w = w64} (record { sfits = c.cell-1.given }))
       ∙ ap (to_z w64) h
       ∙ wide_read entry (record { sfits = c.entry-1.given })
 

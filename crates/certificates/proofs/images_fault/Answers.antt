@@ -11,7 +11,7 @@ use Rattle.definitions.specs.Limits.{bare_limit, exchange_limit, image_limit}
 use Rattle.definitions.specs.Vector.{Vector}
 use Rattle.definitions.specs.Group.{Exchange, exchanged}
 use Rattle.definitions.specs.Lent.{chunks, rows_of, vectors_of}
-use Rattle.definitions.specs.Refusals.{fault_from, images_fault, is_uncertified, sent_images}
+use Rattle.definitions.specs.Refusals.{images_fault, is_uncertified, sent_images}
 use Rattle.theory.proofs.CheckCall.{vectors-count}
 use Rattle.theory.proofs.Bare.{sent-image-at}
 use Rattle.theory.proofs.Faults.{fault-start}

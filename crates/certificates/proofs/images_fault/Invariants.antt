@@ -1,23 +1,10 @@
 -- `images_fault` meets its contract. The invariant: what is left of the test is the whole test. Assumes nothing.
-use mathlib.Core.Path.{◌≡◌, sym, ap, ap₂, ◌∙◌}
-use mathlib.Core.Bool.{Bool}
-use mathlib.Core.List.{List, []}
-use Prim.Native.Nat.{ℕ, zero, suc, ◌+◌, ◌-◌, ◌*◌, ◌/◌, ◌%◌, ◌≤◌, ◌<◌}
-use native.Mathlib.Nat.{div-add-mod', div-lt_iff_lt-mul, mod-lt, mul-le-mul, mul-zero}
-use native.Mathlib.Omega.{arith}
-use lib.IntN.{ℤ}
-use lib.ListN.{length, get_or, take, drop}
-use Rattle.definitions.specs.Limits.{bare_limit, exchange_limit, image_limit}
-use Rattle.definitions.specs.Vector.{Vector}
-use Rattle.definitions.specs.Group.{Exchange, exchanged}
-use Rattle.definitions.specs.Lent.{chunks, rows_of, vectors_of}
-use Rattle.definitions.specs.Refusals.{fault_from, images_fault, is_uncertified, sent_images}
-use Rattle.theory.proofs.CheckCall.{vectors-count}
-use Rattle.theory.proofs.Bare.{sent-image-at}
-use Rattle.theory.proofs.Faults.{fault-start}
-use Rattle.theory.proofs.Lists.{chunks-length, part-row, row-end, row-long}
-use Rattle.theory.proofs.Refused.{images-count}
-use Rattle.refusals.proofs.Turns.{met-here, met_next, met-end}
+use mathlib.Core.Path.{◌≡◌}
+use Prim.Native.Nat.{◌-◌, ◌≤◌}
+use lib.ListN.{length}
+use Rattle.definitions.specs.Limits.{image_limit}
+use Rattle.definitions.specs.Lent.{rows_of, vectors_of}
+use Rattle.definitions.specs.Refusals.{fault_from, images_fault, sent_images}
 use Rattle.certificates.specs.Tests.{uncertified_at}
 use Rattle.certificates.proofs.images_fault.Given as goal
 

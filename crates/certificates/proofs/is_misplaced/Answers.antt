@@ -1,5 +1,5 @@
 -- `is_misplaced` meets its contract: row 0 is never out of its place, and a later row is tested. Assumes nothing.
-use mathlib.Core.Path.{sym, ap, ap₂, ◌∙◌}
+use mathlib.Core.Path.{ap, ap₂, ◌∙◌}
 use mathlib.Core.Bool.{not}
 use native.Mathlib.Omega.{arith}
 use Rattle.definitions.specs.Orbit.{precedes}
@@ -21,5 +21,7 @@ vector_at-later-requires c = record { row = c.requires.row }
 
 pub returns : goal.returns
 returns c =
-    record { told = ap not (c.precedes.ensures.precedes ∙ ap₂ precedes c.vector_at-earlier.ensures.made c.vector_at-later.ensures.made)
-    ∙ misplaced-at (vectors_of c.args.n c.args.rows.now) c.args.p (omega arith) }
+    record {
+      told = ap not (c.precedes.ensures.precedes ∙ ap₂ precedes c.vector_at-earlier.ensures.made c.vector_at-later.ensures.made)
+          ∙ misplaced-at (vectors_of c.args.n c.args.rows.now) c.args.p (omega arith);
+    }

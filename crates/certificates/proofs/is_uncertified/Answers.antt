@@ -2,7 +2,6 @@
 -- Assumes nothing.
 use mathlib.Core.Path.{sym, ap, ◌∙◌}
 use mathlib.Core.Bool.{Bool, not, ◌||◌}
-use borrow.Author.Rules.{rules}
 use Rattle.definitions.specs.Vector.{Vector, equal}
 use Rattle.definitions.specs.Lattice.{combination}
 use Rattle.definitions.specs.Lent.{vectors_of}
@@ -20,6 +19,8 @@ combination-sum-requires c = let none = sym c.has_past.ensures.told ∙ c.if-has
 pub returns : goal.returns
 unfolding is_uncertified
 returns c =
-    let sum = combination c.args.coefficients.now (vectors_of c.args.n c.args.generators.now) in record { told = ap not (c.equals_row.ensures.told ∙ ap (λ (v : Vector). equal v c.args.v) c.combination-sum.ensures.made)
-    ∙ ap (λ (past : Bool). past || not (equal sum c.args.v))
-    (sym (sym c.has_past.ensures.told ∙ c.if-has_past.false)) }
+    let sum = combination c.args.coefficients.now (vectors_of c.args.n c.args.generators.now) in record {
+      told = ap not (c.equals_row.ensures.told ∙ ap (λ (v : Vector). equal v c.args.v) c.combination-sum.ensures.made)
+          ∙ ap (λ (past : Bool). past || not (equal sum c.args.v))
+          (sym (sym c.has_past.ensures.told ∙ c.if-has_past.false));
+    }

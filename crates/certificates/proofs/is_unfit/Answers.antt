@@ -2,10 +2,9 @@
 use mathlib.Core.Path.{sym, ap, ap₂, ◌∙◌}
 use mathlib.Core.Bool.{Bool, not, ◌||◌}
 use native.Mathlib.Omega.{arith}
-use borrow.Author.Rules.{rules}
 use borrow.Author.Tests.{not-false}
 use Rattle.definitions.specs.Limits.{entry_limit}
-use Rattle.definitions.specs.Vector.{within, equal}
+use Rattle.definitions.specs.Vector.{equal}
 use Rattle.definitions.specs.Orbit.{representative}
 use Rattle.definitions.specs.Refusals.{is_unfit}
 use Rattle.theory.proofs.Bounds.{within-each, each_within, within_more}
@@ -31,5 +30,7 @@ unfolding is_unfit
 returns c =
     let image = representative (sequences_in c.args.shape c.args.table.now) c.args.row in
     let zero = sym c.is_zero.ensures.told ∙ c.if-is_zero.false in
-    let past = sym (ap not c.within.ensures.told) ∙ (ap not c.if-not-within.false) in record { told = ap not (c.equal.ensures.told ∙ ap (equal c.args.row) c.representative-greatest.ensures.row)
-    ∙ ap₂ (λ (x y : Bool). x || y || not (equal c.args.row image)) (sym zero) (sym past) }
+    let past = sym (ap not c.within.ensures.told) ∙ (ap not c.if-not-within.false) in record {
+      told = ap not (c.equal.ensures.told ∙ ap (equal c.args.row) c.representative-greatest.ensures.row)
+          ∙ ap₂ (λ (x y : Bool). x || y || not (equal c.args.row image)) (sym zero) (sym past);
+    }

@@ -1,17 +1,16 @@
 -- `misplaced_fault` meets its contract. The invariant: what is left of the test is the whole test. Assumes nothing.
 use mathlib.Core.Path.{◌≡◌, sym, ◌∙◌}
 use mathlib.Core.List.{List}
-use Prim.Native.Nat.{◌-◌, ◌/◌}
+use Prim.Native.Nat.{◌/◌}
 use native.Mathlib.Nat.{div-le_self}
 use native.Mathlib.Omega.{arith}
 use lib.ListN.{length}
 use Rattle.definitions.specs.Vector.{Vector}
 use Rattle.definitions.specs.Lent.{vectors_of}
-use Rattle.definitions.specs.Refusals.{fault_from, is_misplaced}
+use Rattle.definitions.specs.Refusals.{is_misplaced}
 use Rattle.theory.proofs.CheckCall.{vectors-count}
 use Rattle.theory.proofs.Faults.{fault-start}
 use Rattle.refusals.proofs.Turns.{met-here, met_next, met-end}
-use Rattle.certificates.specs.Tests.{misplaced_fault}
 use Rattle.certificates.proofs.misplaced_fault.Goals as goal
 use Rattle.certificates.proofs.misplaced_fault.Goals.{Start}
 
@@ -34,8 +33,10 @@ is_misplaced-requires c = record { row = (c.requires.cells.1, c.loop-p-test.true
 
 pub returns-then-is_misplaced : goal.returns-then-is_misplaced
 returns-then-is_misplaced c =
-    record { found = met-here 18 (length (vs c.before.before.before.before)) (is_misplaced (vs c.before.before.before.before)) c.loop-p.p c.loop-p.invariant (omega (arith, counted c.before.before.before.before))
-    (sym c.is_misplaced.ensures.told ∙ c.if-is_misplaced.true) }
+    record {
+      found = met-here 18 (length (vs c.before.before.before.before)) (is_misplaced (vs c.before.before.before.before)) c.loop-p.p c.loop-p.invariant (omega (arith, counted c.before.before.before.before))
+          (sym c.is_misplaced.ensures.told ∙ c.if-is_misplaced.true);
+    }
 
 pub overflow_add-p : goal.overflow_add-p
 overflow_add-p c = omega (arith, div-le_self (length c.args.rows.now) c.args.n)

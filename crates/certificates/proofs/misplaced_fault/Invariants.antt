@@ -1,16 +1,9 @@
 -- `misplaced_fault` meets its contract. The invariant: what is left of the test is the whole test. Assumes nothing.
-use mathlib.Core.Path.{◌≡◌, sym, ◌∙◌}
-use mathlib.Core.List.{List}
-use Prim.Native.Nat.{◌-◌, ◌/◌}
-use native.Mathlib.Nat.{div-le_self}
-use native.Mathlib.Omega.{arith}
+use mathlib.Core.Path.{◌≡◌}
+use Prim.Native.Nat.{◌-◌}
 use lib.ListN.{length}
-use Rattle.definitions.specs.Vector.{Vector}
 use Rattle.definitions.specs.Lent.{vectors_of}
 use Rattle.definitions.specs.Refusals.{fault_from, is_misplaced}
-use Rattle.theory.proofs.CheckCall.{vectors-count}
-use Rattle.theory.proofs.Faults.{fault-start}
-use Rattle.refusals.proofs.Turns.{met-here, met_next, met-end}
 use Rattle.certificates.specs.Tests.{misplaced_fault}
 use Rattle.certificates.proofs.misplaced_fault.Given as goal
 

@@ -10,12 +10,12 @@ use lib.ListN.{length, get_or, take, drop}
 use Rattle.definitions.specs.Limits.{coefficient_limit}
 use Rattle.definitions.specs.Vector.{Vector}
 use Rattle.definitions.specs.Lent.{chunks, vectors_of}
-use Rattle.definitions.specs.Refusals.{fault_from, is_uncertified}
+use Rattle.definitions.specs.Refusals.{is_uncertified}
 use Rattle.theory.proofs.CheckCall.{vectors-count}
 use Rattle.theory.proofs.Faults.{fault-start}
 use Rattle.theory.proofs.Lists.{part-row, row-end, row-long}
 use Rattle.refusals.proofs.Turns.{met-here, met_next, met-end}
-use Rattle.certificates.specs.Tests.{uncertified_at, uncertified_fault}
+use Rattle.certificates.specs.Tests.{uncertified_at}
 use Rattle.certificates.proofs.uncertified_fault.Goals as goal
 use Rattle.certificates.proofs.uncertified_fault.Goals.{After-is_uncertified, Start}
 
@@ -103,8 +103,10 @@ row-test c =
 
 pub returns-then-is_uncertified : goal.returns-then-is_uncertified
 returns-then-is_uncertified c =
-    record { found = met-here 19 (length (vs c.before.before.before.before.before.before)) (met c.before.before.before.before.before.before) c.loop-p.p c.loop-p.invariant (omega (arith, counted c.before.before.before.before.before.before))
-    (sym (row-test c.before) ∙ c.if-is_uncertified.true) }
+    record {
+      found = met-here 19 (length (vs c.before.before.before.before.before.before)) (met c.before.before.before.before.before.before) c.loop-p.p c.loop-p.invariant (omega (arith, counted c.before.before.before.before.before.before))
+          (sym (row-test c.before) ∙ c.if-is_uncertified.true);
+    }
 
 pub overflow_add-p : goal.overflow_add-p
 overflow_add-p c = omega (arith, div-le_self (length c.args.rows.now) c.args.n)

@@ -1,20 +1,18 @@
 -- `unfit_fault` meets its contract. The invariant: what is left of the test is the whole test. Assumes nothing.
 use mathlib.Core.Path.{◌≡◌, sym, ap, ◌∙◌}
 use mathlib.Core.Bool.{Bool}
-use mathlib.Core.List.{List, []}
-use Prim.Native.Nat.{ℕ, ◌-◌, ◌/◌}
+use mathlib.Core.List.{List}
+use Prim.Native.Nat.{ℕ, ◌/◌}
 use native.Mathlib.Nat.{div-le_self}
 use native.Mathlib.Omega.{arith}
-use lib.ListN.{length, get_or}
+use lib.ListN.{length}
 use Rattle.definitions.specs.Vector.{Vector}
-use Rattle.definitions.specs.Group.{Exchange}
 use Rattle.definitions.specs.Lent.{vectors_of}
-use Rattle.definitions.specs.Refusals.{fault_from, is_unfit}
+use Rattle.definitions.specs.Refusals.{is_unfit}
 use Rattle.theory.proofs.CheckCall.{vectors-count}
 use Rattle.theory.proofs.Faults.{fault-start}
 use Rattle.refusals.proofs.Turns.{met-here, met_next, met-end}
 use Rattle.reduction.specs.Areas.{sequences_in}
-use Rattle.certificates.specs.Tests.{unfit_fault}
 use Rattle.certificates.proofs.unfit_fault.Goals as goal
 use Rattle.certificates.proofs.unfit_fault.Goals.{Start}
 use Rattle.certificates.proofs.unfit_fault.Lts
@@ -58,8 +56,10 @@ row-test c =
 
 pub returns-then-is_unfit : goal.returns-then-is_unfit
 returns-then-is_unfit c =
-    record { found = met-here 17 (length (vs c.before.before.before.before.before.before.before)) (met c.before.before.before.before.before.before.before) c.loop-p.p c.loop-p.invariant (omega (arith, counted c.before.before.before.before.before.before.before))
-    (sym (row-test c.before.before) ∙ c.if-is_unfit.true) }
+    record {
+      found = met-here 17 (length (vs c.before.before.before.before.before.before.before)) (met c.before.before.before.before.before.before.before) c.loop-p.p c.loop-p.invariant (omega (arith, counted c.before.before.before.before.before.before.before))
+          (sym (row-test c.before.before) ∙ c.if-is_unfit.true);
+    }
 
 pub overflow_add-p : goal.overflow_add-p
 overflow_add-p c = omega (arith, div-le_self (length c.args.rows.now) c.args.shape.n)

@@ -1,8 +1,7 @@
 -- `note_first` meets its contract. The loop's invariant: the first r rows are those of the first p generators, and their
 -- coefficients are noted. Assumes nothing.
-use mathlib.Core.Path.{◌≡◌, refl, ◌∙◌, ap}
-use mathlib.Core.Logic.{⊎_elim}
-use Prim.Native.Nat.{◌+◌, ◌-◌, ◌≤◌, ◌<◌}
+use mathlib.Core.Path.{refl, ◌∙◌, ap}
+use Prim.Native.Nat.{◌+◌, ◌<◌}
 use native.Mathlib.Nat.{div-le_self, mul-le-mul_right}
 use native.Mathlib.Omega.{arith}
 use lib.ListN.{length}
@@ -10,7 +9,7 @@ use Rattle.theory.proofs.Lists.{row-end}
 use Rattle.certified.specs.Noting.{FirstStored, width_of}
 use Rattle.certified.proofs.FirstNotes.{FirstNoted, first-end, first-onward, first_past, first-same, first-start}
 use Rattle.certified.proofs.note_first.Goals as goal
-use Rattle.certified.proofs.note_first.Goals.{Start}
+use Rattle.certified.proofs.note_first.Goals.{Start, then-r-stored, else-r-stored}
 use Rattle.certified.proofs.note_first.Lts
 use Rattle.certified.proofs.note_first.Reads
 use Rattle.certified.proofs.note_first.Tie
@@ -46,10 +45,15 @@ note_generator-next-requires c =
     let r = c.loop-p.r in
     let n = c.args.sizes.shape.n in
     let m = width_of n c.args.basis.now in
-    let l = c.if-r-stored.true in record { notable = record {
+    let l = c.if-r-stored.true in record {
+      notable = record {
         closed = c.requires.notable.closed;
         room = omega (arith, mul-le-mul_right {m = r + 1} {n = c.args.stored} m (omega (arith, l)), c.requires.notable.room, c.loop-p.invariant.0);
-      }; generator = c.loop-p-test.true; row = omega (arith, row-end r c.args.stored n l, (stored c.before.before.before).room); made = (stored c.before.before.before).made }
+      };
+      generator = c.loop-p-test.true;
+      row = omega (arith, row-end r c.args.stored n l, (stored c.before.before.before).room);
+      made = (stored c.before.before.before).made;
+    }
 
 pub overflow_add-p : goal.overflow_add-p
 overflow_add-p c = omega (arith, c.loop-p-test.true, div-le_self (length c.args.basis.now) c.args.sizes.shape.n)
@@ -59,22 +63,18 @@ loop-p-smaller c = omega (arith, c.loop-p-test.true)
 
 pub loop-p-preserved : goal.loop-p-preserved
 loop-p-preserved c =
-    ⊎_elim
-    (λ q. (
-      ap length q.4 ∙ q.2.kept.1.1.1.1.1.1.0 ∙ c.loop-p.invariant.0,
-      omega (arith, c.loop-p-test.true),
-      λ h. first-same q.4 q.5 (first-onward (stored c.before.before) (so_far c.before.before) c.loop-p-test.true q.0.taken q.2.ensures),
-    ))
-    (λ q. (
-      ap length q.1 ∙ c.loop-p.invariant.0,
-      omega (arith, c.loop-p-test.true),
-      λ h. first-same q.1 q.2 (first_past (stored c.before.before) (so_far c.before.before) c.loop-p-test.true q.0.left),
-    ))
-    c.if-r-stored.branch
-
--- TODO no goal same-length
--- same_length : tie.Need-same-length invariant-loop decreases-loop
--- same_length c = c.before.loop.invariant.0
+    elim c.if-r-stored.branch [
+      | then-r-stored q ↦ (
+        ap length q.coefficients-is ∙ q.note_generator-next.auto.coefficients ∙ c.loop-p.invariant.0,
+        omega (arith, c.loop-p-test.true),
+        λ h. first-same q.coefficients-is q.r-is (first-onward (stored c.before.before) (so_far c.before.before) c.loop-p-test.true q.if-r-stored.true q.note_generator-next.ensures.noted),
+      )
+      | else-r-stored q ↦ (
+        ap length q.coefficients-is ∙ c.loop-p.invariant.0,
+        omega (arith, c.loop-p-test.true),
+        λ h. first-same q.coefficients-is q.r-is (first_past (stored c.before.before) (so_far c.before.before) c.loop-p-test.true q.if-r-stored.false),
+      )
+    ]
 
 pub returns : goal.returns
 returns c = record { noted = λ h. first-end (c.requires.stored h) (c.loop-p.invariant.2 h) c.loop-p-test.false c.args.sizes.limit }

@@ -1,14 +1,9 @@
 -- `note_first` meets its contract. The loop's invariant: the first r rows are those of the first p generators, and their
 -- coefficients are noted. Assumes nothing.
-use mathlib.Core.Path.{◌≡◌, refl, ◌∙◌, ap}
-use mathlib.Core.Logic.{⊎_elim}
-use Prim.Native.Nat.{◌+◌, ◌-◌, ◌≤◌, ◌<◌}
-use native.Mathlib.Nat.{div-le_self, mul-le-mul_right}
-use native.Mathlib.Omega.{arith}
+use mathlib.Core.Path.{◌≡◌}
+use Prim.Native.Nat.{◌-◌, ◌≤◌, ◌<◌}
 use lib.ListN.{length}
-use Rattle.theory.proofs.Lists.{row-end}
-use Rattle.certified.specs.Noting.{FirstStored, width_of}
-use Rattle.certified.proofs.FirstNotes.{FirstNoted, first-end, first-onward, first_past, first-same, first-start}
+use Rattle.certified.proofs.FirstNotes.{FirstNoted}
 use Rattle.certified.proofs.note_first.Given as goal
 
 abbrev pub invariant-loop-p : goal.invariant-loop-p

@@ -5,8 +5,6 @@ use mathlib.Core.Bool.{true, false}
 use mathlib.Core.List.{List, [], ◌∷◌, ◌++◌}
 use Prim.Native.Nat.{ℕ, ◌+◌}
 use native.Mathlib.Omega.{arith}
-use borrow.Author.Rules.{rules}
-use borrow.Author.Tests.{not-false, not-true}
 use lib.IntN.{ℤ, pos}
 use lib.ListN.{length, get_or, take, drop, length-append}
 use lib.Seq.{take_at}
@@ -85,7 +83,7 @@ module _ (c : After-equal) where
   other e q = clash (same-equal row) (ap (λ (v : Vector). equal v row) (sym q) ∙ sym told ∙ e)
 
 pub returns-then-not-equal : goal.returns-then-not-equal
-returns-then-not-equal c = record { noted = record { other = λ f. (refl, refl); own = λ q. absurd (other c.before.before (not-true _ (ap not c.if-not-equal.true)) q) } }
+returns-then-not-equal c = record { noted = record { other = λ f. (refl, refl); own = λ q. absurd (other c.before.before c.if-not-equal.true q) } }
 
 pub slice_bounds-add_counted-end : goal.slice_bounds-add_counted-end
 slice_bounds-add_counted-end c = sym (blank-long c.requires.notable)
@@ -100,7 +98,7 @@ module _ (c : After-add_counted) where
 
   -- the row is its row
   alike : own found ≡ row found
-  alike = same found (not-false _ (ap not c.if-not-equal.false))
+  alike = same found c.if-not-equal.false
 
   abbrev s : Start
   s = found.before.before.before.before.before
@@ -137,18 +135,20 @@ slice_bounds-row_coefficients-end c = sym (ap length (handed c.before.before.bef
 
 pub row_coefficients-requires : goal.row_coefficients-requires
 row_coefficients-requires c =
-    let long = ap length (handed c.before.before.before.before) ∙ counted-long c.before.before.before.before in record { closed = c.requires.notable.closed; limited = limited c.before.before.before.before.before.before.before.before.before.before; made = generator-made c.requires.notable.closed c.args.p c.requires.generator c.load-row.result
-              c.vector_at-v.result (take (m c.before.before.before.before) (holding c.before.before.before.before)) (row_is c.before.before.before.before.before.before.before ∙ sym (alike c.before.before.before.before))
-              c.vector_at-v.ensures.made c.requires.made; sized = (long, last-long c.args.r c.requires.notable ∙ sym long); small = rw (counted_is c.before.before.before.before) (counted-small c.requires.notable.closed c.args.p c.requires.generator) }
+    let long = ap length (handed c.before.before.before.before) ∙ counted-long c.before.before.before.before in record {
+      closed = c.requires.notable.closed;
+      limited = limited c.before.before.before.before.before.before.before.before.before.before;
+      made = generator-made c.requires.notable.closed c.args.p c.requires.generator c.load-row.result
+          c.vector_at-v.result (take (m c.before.before.before.before) (holding c.before.before.before.before)) (row_is c.before.before.before.before.before.before.before ∙ sym (alike c.before.before.before.before))
+          c.vector_at-v.ensures.made c.requires.made;
+      sized = (long, last-long c.args.r c.requires.notable ∙ sym long);
+      small = rw (counted_is c.before.before.before.before) (counted-small c.requires.notable.closed c.args.p c.requires.generator);
+    }
 
 pub overflow_add-result : goal.overflow_add-result
 overflow_add-result c =
     let few = le-times (c.args.r + 1) c.args.shape.n c.requires.notable.closed.is_table.positive in
     omega (arith, few, c.requires.row)
-
--- TODO no goal same-length
--- same_length : tie.Need-same-length
--- same_length c = search rules
 
 pub returns : goal.returns
 returns c =
@@ -157,11 +157,13 @@ returns c =
     c.row_coefficients.ensures.made
     ∙ given_is c.requires.notable.closed c.args.p c.requires.generator c.load-row.result
     c.vector_at-v.result (take (m c.before.before.before.before.before.before) (holding c.before.before.before.before.before.before)) (row_is c.before.before.before.before.before.before.before.before.before ∙ sym (alike c.before.before.before.before.before.before))
-    c.vector_at-v.ensures.made (counted_is c.before.before.before.before.before.before) in record { noted = record {
-      other = λ f. absurd (f (alike c.before.before.before.before.before.before));
-      own = λ q. (
-        refl,
-        put-rows c.args.r c.requires.notable c.row_coefficients.new.into long
-            ∙ ap (λ (l : List ℤ). noted_in c.args.shape.n c.args.basis.now c.args.r c.args.coefficients.now ++ l ∷ []) given,
-      );
-    } }
+    c.vector_at-v.ensures.made (counted_is c.before.before.before.before.before.before) in record {
+      noted = record {
+        other = λ f. absurd (f (alike c.before.before.before.before.before.before));
+        own = λ q. (
+          refl,
+          put-rows c.args.r c.requires.notable c.row_coefficients.new.into long
+              ∙ ap (λ (l : List ℤ). noted_in c.args.shape.n c.args.basis.now c.args.r c.args.coefficients.now ++ l ∷ []) given,
+        );
+      };
+    }

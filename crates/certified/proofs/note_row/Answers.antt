@@ -3,9 +3,8 @@
 use mathlib.Core.Path.{◌≡◌, sym, ◌∙◌, ap, ap₂, subst}
 use mathlib.Core.Bool.{not}
 use mathlib.Core.List.{List, [], ◌∷◌, ◌++◌}
-use Prim.Native.Nat.{ℕ, ◌+◌, ◌-◌, ◌*◌, ◌≤◌}
+use Prim.Native.Nat.{ℕ, ◌+◌, ◌*◌, ◌≤◌}
 use native.Mathlib.Omega.{arith}
-use borrow.Author.Rules.{rules}
 use lib.IntN.{ℤ}
 use lib.ListN.{length, take, drop, length-append}
 use lib.Seq.{take_at}
@@ -107,8 +106,12 @@ slice_bounds-reduce_certified-end c = sym (ap length (handed c.before.before.bef
 pub reduce_certified-rest-requires : goal.reduce_certified-rest-requires
 reduce_certified-rest-requires c =
     let v = c.sum_at.result in
-    let is = c.sum_at.ensures.sum in record { ready = c.requires.stored.summable.ready; limited = rw is (sum-limited c.requires.stored.summable.formable); carriable = carriable c.requires.stored c.requires.notable c.requires.limited v (take (m c.before.before.before.before.before.before.before.before.before) (holding c.before.before.before.before)) is
-            (handed c.before.before.before.before ∙ c.sum_coefficients.ensures.made) (ap length (handed c.before.before.before.before) ∙ summed-long c.before.before.before.before) }
+    let is = c.sum_at.ensures.sum in record {
+      ready = c.requires.stored.summable.ready;
+      limited = rw is (sum-limited c.requires.stored.summable.formable);
+      carriable = carriable c.requires.stored c.requires.notable c.requires.limited v (take (m c.before.before.before.before.before.before.before.before.before) (holding c.before.before.before.before)) is
+          (handed c.before.before.before.before ∙ c.sum_coefficients.ensures.made) (ap length (handed c.before.before.before.before) ∙ summed-long c.before.before.before.before);
+    }
 
 -- the remainder, and its coefficients
 module _ (c : After-reduce_certified-rest) where
@@ -132,7 +135,7 @@ module _ (c : After-reduce_certified-rest) where
 
   rest-is : c.reduce_certified-rest.result
       ≡ remainder_in first.args.shape first.args.table.now first.args.list.now first.args.s
-  rest-is = c.reduce_certified-rest.ensures.0 ∙ ap (remainder G (rows_at n first.args.s.stored first.args.list.now)) c.sum_at.ensures.sum
+  rest-is = c.reduce_certified-rest.ensures.rest ∙ ap (remainder G (rows_at n first.args.s.stored first.args.list.now)) c.sum_at.ensures.sum
     where
       n : ℕ
       n = first.args.shape.n
@@ -142,7 +145,7 @@ module _ (c : After-reduce_certified-rest) where
 
   carried-is : take (m first.before.before.before.before.before) left ≡ rest_cs first.requires.stored first.requires.notable first.requires.limited
   carried-is =
-      handed-on ∙ c.reduce_certified-rest.ensures.1
+      handed-on ∙ c.reduce_certified-rest.ensures.carried
       ∙ ap₂ (remainder_coefficients (record { shape = first.args.shape; k = first.args.s.stored })
       first.args.table.now first.args.list.now first.args.basis.now first.args.coefficients.now)
       c.sum_at.ensures.sum (handed first ∙ first.sum_coefficients.ensures.made)
@@ -215,7 +218,9 @@ slice_bounds-has_past-end c = subst (λ (l : ℕ). c.args.s.stored * m c.before.
 pub returns : goal.returns
 returns c =
     let row = put-row c.args.s.stored c.requires.notable (new c.before.before.before.before) (new-long c.before.before.before.before) in
-    let rows = put-rows c.args.s.stored c.requires.notable (new c.before.before.before.before) (new-long c.before.before.before.before) in record { noted = record {
-      told = ap not (c.has_past.ensures.told ∙ ap (any (is_past stored_coefficient_limit)) (row ∙ noted-is c.before.before.before.before)) ∙ none-past stored_coefficient_limit _;
-      rows = rows ∙ ap (λ (l : List ℤ). noted_in c.args.shape.n c.args.basis.now c.args.s.stored c.args.coefficients.now ++ l ∷ []) (noted-is c.before.before.before.before);
-    } }
+    let rows = put-rows c.args.s.stored c.requires.notable (new c.before.before.before.before) (new-long c.before.before.before.before) in record {
+      noted = record {
+        told = ap not (c.has_past.ensures.told ∙ ap (any (is_past stored_coefficient_limit)) (row ∙ noted-is c.before.before.before.before)) ∙ none-past stored_coefficient_limit _;
+        rows = rows ∙ ap (λ (l : List ℤ). noted_in c.args.shape.n c.args.basis.now c.args.s.stored c.args.coefficients.now ++ l ∷ []) (noted-is c.before.before.before.before);
+      };
+    }

@@ -1,12 +1,10 @@
 -- `run` meets its contract. The invariant: the sums that are left come to the whole run's end. The measure: their number.
 -- Assumes nothing.
-use mathlib.Core.Path.{◌≡◌, refl, ◌∙◌}
-use Prim.Native.Nat.{◌-◌, ◌<◌}
-use native.Mathlib.Omega.{arith}
-use borrow.Author.Rules.{rules}
+use mathlib.Core.Path.{◌≡◌}
+use Prim.Native.Nat.{◌-◌}
 use lib.ListN.{length}
 use Rattle.certified.specs.Noting.{ran_in}
-use Rattle.certified.proofs.Turns.{all_sums, certified-is, Looped, looped-start, looped-next, looped-less, looped-stop, looped-end}
+use Rattle.certified.proofs.Turns.{all_sums, Looped}
 use Rattle.certified.proofs.run.Given as goal
 
 abbrev pub invariant-loop-s : goal.invariant-loop-s

@@ -1,7 +1,6 @@
 -- `sum_coefficients` meets its contract: nothing, then the coefficients of row i, then plus or minus those of the image of row j.
 -- Assumes nothing.
 use mathlib.Core.Path.{◌≡◌, sym, ◌∙◌, ap, ap₂}
-use mathlib.Core.Logic.{⊎_elim}
 use mathlib.Core.List.{List, []}
 use Prim.Native.Nat.{ℕ, ◌+◌, ◌-◌, ◌*◌, ◌≤◌, ◌<◌}
 use native.Mathlib.Omega.{arith}
@@ -9,12 +8,6 @@ use mir.Syntax.{w64}
 use mir.Val.{to_z}
 use lib.IntN.{ℤ, pos, nat_abs}
 use lib.ListN.{length, get_or, take, drop}
-use borrow.Author.Rules.{rules}
-use Rattle.certified.proofs.sum_coefficients.Reads as reads
-use Rattle.certified.proofs.sum_coefficients.Lts as lts
-use Rattle.coefficients.proofs.add_image.Reads as add-image-reads
-use Rattle.coefficients.proofs.add_times.Reads as add-times-reads
-use Rattle.coefficients.proofs.clear_coefficients.Reads as clear-coefficients-reads
 use Rattle.definitions.specs.Vector.{plus, scale, weight, zeros}
 use Rattle.definitions.specs.Split.{sign}
 use Rattle.definitions.specs.Certified.{certified_sum}
@@ -27,7 +20,7 @@ use Rattle.coefficients.proofs.Blanks.{cleared-zeros, scale-sign, sign-light}
 use Rattle.coefficients.proofs.Closing.{movable, moved-is, position-end, position-part}
 use Rattle.certified.proofs.Noted.{noted-end, noted-light, noted-long, noted-part}
 use Rattle.certified.proofs.sum_coefficients.Goals as goal
-use Rattle.certified.proofs.sum_coefficients.Goals.{Start}
+use Rattle.certified.proofs.sum_coefficients.Goals.{Start, then-s, else-s}
 use Rattle.certified.proofs.sum_coefficients.Lts
 use Rattle.certified.proofs.sum_coefficients.Reads
 use Rattle.certified.proofs.sum_coefficients.Tie
@@ -121,11 +114,13 @@ pub slice_bounds-add_image-end-2 : goal.slice_bounds-add_image-end-2
 slice_bounds-add_image-end-2 c = omega (arith, end-at c.before.before.before.before.before.before.before.before.before.before.before.before.before.before)
 
 -- + or −, as a number
-sign-is : (c : Joined-s) → to_z w64 c.if-s.sign ≡ sign c.args.s.positive
+sign-is : (c : Joined-s) → to_z w64 c.if-s.sign-bits ≡ sign c.args.s.positive
 unfolding sign
 sign-is c =
-    ⊎_elim (λ q. ap (to_z w64) q.1 ∙ ap sign (sym q.0.taken)) (λ q. ap (to_z w64) q.1 ∙ ap sign (sym q.0.left))
-    c.if-s.branch
+    elim c.if-s.branch [
+      | then-s q ↦ q.sign-is ∙ ap sign (sym q.if-s.true)
+      | else-s q ↦ q.sign-is ∙ ap sign (sym q.if-s.false)
+    ]
 
 -- the coefficients of row i stand alone
 module _ (c : After-add_times) where
@@ -145,17 +140,11 @@ pub add_image-requires : goal.add_image-requires
 add_image-requires c =
     let small : weight (other c.before.before.before.before.before.before.before.before.before.before.before.before.before.before.before.before) ≤ widest = omega (arith, other-light c.before.before.before.before.before.before.before.before.before.before.before.before.before.before.before.before) in
     let once =
-    ap (λ (z : ℤ). nat_abs z * weight (other c.before.before.before.before.before.before.before.before.before.before.before.before.before.before.before.before)) (sign-is c.before.before.before.before.before.before.before.before.before.before.before) in rw (position-part c.requires.notable.closed c.args.s.position c.requires.tried.2, other-is c.before.before.before.before.before.before.before.before.before.before.before.before.before.before.before.before) (
-      movable c.requires.notable.closed c.args.s.position c.requires.tried.2 (other c.before.before.before.before.before.before.before.before.before.before.before.before.before.before.before.before) (other-long c.before.before.before.before.before.before.before.before.before.before.before.before.before.before.before.before) small,
-      (
-        ap length (alone c.before.before.before.before.before) ∙ row-long c.before.before.before.before.before.before.before.before.before.before.before.before.before.before.before.before ∙ c.requires.sized ∙ sym (other-long c.before.before.before.before.before.before.before.before.before.before.before.before.before.before.before.before),
-        omega (arith, ap weight (alone c.before.before.before.before.before), once, sign-light 0 c.args.s.positive (other c.before.before.before.before.before.before.before.before.before.before.before.before.before.before.before.before), row-light c.before.before.before.before.before.before.before.before.before.before.before.before.before.before.before.before, other-light c.before.before.before.before.before.before.before.before.before.before.before.before.before.before.before.before),
-      ),
-    )
-
--- TODO no goal same-length
--- same_length : tie.Need-same-length
--- same_length c = search rules
+    ap (λ (z : ℤ). nat_abs z * weight (other c.before.before.before.before.before.before.before.before.before.before.before.before.before.before.before.before)) (sign-is c.before.before.before.before.before.before.before.before.before.before.before) in rw (position-part c.requires.notable.closed c.args.s.position c.requires.tried.2, other-is c.before.before.before.before.before.before.before.before.before.before.before.before.before.before.before.before) (record {
+      movable = movable c.requires.notable.closed c.args.s.position c.requires.tried.2 (other c.before.before.before.before.before.before.before.before.before.before.before.before.before.before.before.before) (other-long c.before.before.before.before.before.before.before.before.before.before.before.before.before.before.before.before) small;
+      sized = ap length (alone c.before.before.before.before.before) ∙ row-long c.before.before.before.before.before.before.before.before.before.before.before.before.before.before.before.before ∙ c.requires.sized ∙ sym (other-long c.before.before.before.before.before.before.before.before.before.before.before.before.before.before.before.before);
+      room = omega (arith, ap weight (alone c.before.before.before.before.before), once, sign-light 0 c.args.s.positive (other c.before.before.before.before.before.before.before.before.before.before.before.before.before.before.before.before), row-light c.before.before.before.before.before.before.before.before.before.before.before.before.before.before.before.before, other-light c.before.before.before.before.before.before.before.before.before.before.before.before.before.before.before.before);
+    })
 
 pub returns : goal.returns
 unfolding certified_sum
@@ -163,6 +152,8 @@ returns c =
     let signs = sign-is c.before.before.before.before.before.before.before.before.before.before.before.before.before in
     let moved =
     ap₂ (moved_by c.args.basis.now) (position-part c.requires.notable.closed c.args.s.position c.requires.tried.2) (other-is c.before.before.before.before.before.before.before.before.before.before.before.before.before.before.before.before.before.before)
-    ∙ moved-is c.requires.notable.closed c.args.s.position c.requires.tried.2 (other c.before.before.before.before.before.before.before.before.before.before.before.before.before.before.before.before.before.before) (other-long c.before.before.before.before.before.before.before.before.before.before.before.before.before.before.before.before.before.before) in record { made = c.add_image.ensures.added
-    ∙ ap₂ plus (alone c.before.before.before.before.before.before.before) (ap₂ scale signs moved)
-    ∙ ap (plus (row c.before.before.before.before.before.before.before.before.before.before.before.before.before.before.before.before.before.before)) (scale-sign c.args.s.positive _) }
+    ∙ moved-is c.requires.notable.closed c.args.s.position c.requires.tried.2 (other c.before.before.before.before.before.before.before.before.before.before.before.before.before.before.before.before.before.before) (other-long c.before.before.before.before.before.before.before.before.before.before.before.before.before.before.before.before.before.before) in record {
+      made = c.add_image.ensures.added
+          ∙ ap₂ plus (alone c.before.before.before.before.before.before.before) (ap₂ scale signs moved)
+          ∙ ap (plus (row c.before.before.before.before.before.before.before.before.before.before.before.before.before.before.before.before.before.before)) (scale-sign c.args.s.positive _);
+    }

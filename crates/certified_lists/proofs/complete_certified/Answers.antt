@@ -16,14 +16,13 @@ use Rattle.certified.specs.Noting.{CertifiedTo, completed_in}
 use Rattle.certified.proofs.Turns.{certified-is}
 use Rattle.moves.proofs.Steps.{cleared-areas}
 use Rattle.certified_lists.proofs.Steps.{all-notable, certified-stopped, stored-noted, certified-ended}
-use borrow.Author.Rules.{rules}
 use Rattle.certified_lists.proofs.complete_certified.Goals as goal
 use Rattle.certified_lists.proofs.complete_certified.Goals.{After-complete-c, After-rows_up_to-limit, Start}
 
 -- the cleared list area, and its rows
 module _ (c : After-rows_up_to-limit) where
   abbrev start : Start
-  start = c.before.before.before.before.before
+  start = (goal.at.After-rows_up_to-limit c).Start
 
   abbrev size : ℕ
   size = length start.args.list.now
@@ -41,7 +40,7 @@ module _ (c : After-rows_up_to-limit) where
 module _ (c : After-complete-c) where
   -- once the rows were counted
   abbrev counted : After-rows_up_to-limit
-  counted = c.before.before.before.before.before
+  counted = (goal.at.After-complete-c c).After-rows_up_to-limit
 
   -- the list area keeps its length
   kept : length c.complete-c.new.list ≡ size counted
@@ -56,41 +55,38 @@ module _ (c : After-complete-c) where
   -- the completion came to r
   came : {r : Completion} → c.complete-c.result ≡ r →
       let a = counted.args in
-      let areas = c.complete-c.new.1 in
-      CertifiedTo a.shape a.group.now areas.0 areas.1.1.1.0 areas.1.1.1.1.0 a.generators.now
-      areas.1.1.1.1.1.1.0 end r
+      let areas = c.complete-c.new in
+      CertifiedTo a.shape a.group.now areas.list areas.marks areas.keys a.generators.now
+      areas.coefficients end r
   came e = certified-is {x = end} c.complete-c.ensures.completed e
 
 pub complete-c-requires : goal.complete-c-requires
-complete-c-requires c = let limit = c.rows_up_to-limit.result in record { areas = cleared-areas c.requires.closed.grouped (size c.before.before.before.before.before) limit (limit_is c.before.before.before.before.before) (cleared c.before.before.before.before.before) (omega arith); admissible = c.requires.closed.grouped.admissible; own = λ h. refl; notable = all-notable c.requires.closed (size c.before.before.before.before.before) limit (limit_is c.before.before.before.before.before) (omega arith) }
-
--- TODO no goal enum-known-c-2
--- enum-known-c-2 : tie.Need-enum-known-c-2
--- enum-known-c-2 c = search rules
+complete-c-requires c =
+    let p = (goal.at.complete-c-requires c).After-rows_up_to-limit in
+    let limit = c.rows_up_to-limit.result in record { areas = cleared-areas c.requires.closed.grouped (size p) limit (limit_is p) (cleared p) (omega arith); admissible = c.requires.closed.grouped.admissible; own = λ h. refl; notable = all-notable c.requires.closed (size p) limit (limit_is p) (omega arith) }
 
 pub finish_certified-rows-requires : goal.finish_certified-rows-requires
 finish_certified-rows-requires c =
-    let A = came c.before.before.before.before.before.before.before.before.before.before.before.before.before.before c.c-in-Running-1.given.1 in record { noted = stored-noted c.requires.closed (size c.before.before.before.before.before.before.before.before.before.before.before.before.before.before.before.before.before.before.before) c.rows_up_to-limit.result (limit_is c.before.before.before.before.before.before.before.before.before.before.before.before.before.before.before.before.before.before.before) c.c-in-Running-1.given.0.0 A (kept c.before.before.before.before.before.before.before.before.before.before.before.before.before.before)
-    (omega (arith, c.complete-c.auto.marks)) (omega (arith, c.complete-c.auto.coefficients)) c.requires.room }
-
--- TODO no goal same-length
--- same_length : tie.Need-same-length
--- same_length c = search rules
+    let p = (goal.at.finish_certified-rows-requires c).After-complete-c in
+    let q = (goal.at.finish_certified-rows-requires c).After-rows_up_to-limit in
+    let A = came p c.in-Running.is in record {
+      noted = stored-noted c.requires.closed (size q) c.rows_up_to-limit.result (limit_is q) c.in-Running.s A (kept p)
+          (omega (arith, c.complete-c.auto.marks)) (omega (arith, c.complete-c.auto.coefficients)) c.requires.room;
+    }
 
 pub returns-in-Stopped : goal.returns-in-Stopped
 returns-in-Stopped c =
-    record { found = certified-stopped c.requires.closed (size c.before.before.before.before.before.before.before.before.before.before.before.before.before) c.rows_up_to-limit.result (limit_is c.before.before.before.before.before.before.before.before.before.before.before.before.before) _ _
-    (came c.before.before.before.before.before.before.before.before c.c-1.given.1) }
-
--- TODO no goal same-length-2
--- same-length-2 : tie.Need-same-length-2
--- same-length-2 c = search rules
-
--- TODO no goal same-length-3
--- same-length-3 : tie.Need-same-length-3
--- same-length-3 c = search rules
+    let p = (goal.at.returns-in-Stopped c).After-rows_up_to-limit in
+    record {
+      found = certified-stopped c.requires.closed (size p) c.rows_up_to-limit.result (limit_is p) _ _
+          (came (goal.at.returns-in-Stopped c).After-complete-c c.in-Stopped.is);
+    }
 
 pub returns-in-Running : goal.returns-in-Running
 returns-in-Running c =
-    let A = came c.before.before.before.before.before.before.before.before.before.before.before.before.before.before.before.before.before c.c-in-Running-1.given.1 in record { found = certified-ended c.requires.closed (size c.before.before.before.before.before.before.before.before.before.before.before.before.before.before.before.before.before.before.before.before.before.before) c.rows_up_to-limit.result (limit_is c.before.before.before.before.before.before.before.before.before.before.before.before.before.before.before.before.before.before.before.before.before.before) c.c-in-Running-1.given.0.0 A (kept c.before.before.before.before.before.before.before.before.before.before.before.before.before.before.before.before.before)
-    c.finish_certified-rows.result (length c.args.coefficients.now) c.finish_certified-rows.ensures.arranged }
+    let p = (goal.at.returns-in-Running c).After-complete-c in
+    let q = (goal.at.returns-in-Running c).After-rows_up_to-limit in
+    let A = came p c.in-Running.is in record {
+      found = certified-ended c.requires.closed (size q) c.rows_up_to-limit.result (limit_is q) c.in-Running.s A (kept p)
+          c.finish_certified-rows.result (length c.args.coefficients.now) c.finish_certified-rows.ensures.arranged;
+    }

@@ -1,6 +1,6 @@
 -- `copy_numbers` meets its contract. The invariant: the first numbers are laid in. Assumes nothing.
 use mathlib.Core.Path.{◌≡◌, refl, sym, ap, ◌∙◌}
-use Prim.Native.Nat.{ℕ, ◌+◌, ◌≤◌, ◌-◌}
+use Prim.Native.Nat.{ℕ, ◌+◌}
 use native.Mathlib.Numerals.{add-one}
 use native.Mathlib.Omega.{arith}
 use lib.IntN.{pos}
@@ -41,16 +41,14 @@ loop-i-preserved c =
     ∙ paste-suc s.into.now 0 s.from.now i (pos 0) (omega arith) (omega arith) in
     (omega arith, rw (c.loop-i.invariant.1, read_back (cell_at s.from.now i) c.into-1.given, add-one i) laid, simp length-set c.loop-i.invariant.2)
 
--- TODO no goal same-length
--- same_length : tie.Need-same-length invariant-loop decreases-loop
--- same_length c = c.before.loop.invariant.2
-
 pub returns : goal.returns
 returns c =
     let s = c.args in
     let from = s.from.now in
     let whole : c.loop-i.i ≡ length from = omega arith in
-    let front : 0 + length from ≡ length from = omega arith in record { copied = ap (take (length from)) (c.loop-i.invariant.1 ∙ ap (paste s.into.now 0 from) whole)
-    ∙ ap (λ (k : ℕ). take k (paste s.into.now 0 from (length from))) (sym front)
-    ∙ take-paste s.into.now 0 from (length from) (omega arith) (omega arith)
-    ∙ take-length from }
+    let front : 0 + length from ≡ length from = omega arith in record {
+      copied = ap (take (length from)) (c.loop-i.invariant.1 ∙ ap (paste s.into.now 0 from) whole)
+          ∙ ap (λ (k : ℕ). take k (paste s.into.now 0 from (length from))) (sym front)
+          ∙ take-paste s.into.now 0 from (length from) (omega arith) (omega arith)
+          ∙ take-length from;
+    }

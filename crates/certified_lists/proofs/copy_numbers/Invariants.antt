@@ -1,13 +1,8 @@
 -- `copy_numbers` meets its contract. The invariant: the first numbers are laid in. Assumes nothing.
-use mathlib.Core.Path.{◌≡◌, refl, sym, ap, ◌∙◌}
-use Prim.Native.Nat.{ℕ, ◌+◌, ◌≤◌, ◌-◌}
-use native.Mathlib.Numerals.{add-one}
-use native.Mathlib.Omega.{arith}
-use lib.IntN.{pos}
-use lib.ListN.{length, set, take, length-set}
-use lib.Seq.{paste, paste-zero, paste-suc, take-length, take-paste}
-use Rattle.vectors.proofs.Cells.{read_back}
-use Rattle.vectors.proofs.Kit.{cell_at}
+use mathlib.Core.Path.{◌≡◌}
+use Prim.Native.Nat.{◌≤◌, ◌-◌}
+use lib.ListN.{length}
+use lib.Seq.{paste}
 use Rattle.certified_lists.proofs.copy_numbers.Given as goal
 
 abbrev pub invariant-loop-i : goal.invariant-loop-i

@@ -5,7 +5,6 @@ use Prim.Native.Nat.{ℕ, ◌*◌, ◌≤◌}
 use native.Mathlib.Omega.{arith}
 use lib.ListN.{length, take}
 use lib.Seq.{length-take-le}
-use borrow.Author.Rules.{rules}
 use Rattle.certified_lists.proofs.Finishing.{arrangeable, arranged_is, kept-room, noted_small, stored-copied, stored-room}
 use Rattle.certified_lists.proofs.finish_certified.Goals as goal
 use Rattle.certified_lists.proofs.finish_certified.Goals.{After-copy_numbers, Start}
@@ -20,10 +19,10 @@ module _ (s : Start) where
   front_long = length-take-le _ s.args.list.now front
 
 pub slice_bounds-copy_numbers-end-2 : goal.slice_bounds-copy_numbers-end-2
-slice_bounds-copy_numbers-end-2 c = sym (front_long c.before.before.before.before.before)
+slice_bounds-copy_numbers-end-2 c = sym (front_long (goal.at.slice_bounds-copy_numbers-end-2 c).Start)
 
 pub copy_numbers-requires : goal.copy_numbers-requires
-copy_numbers-requires c = record { room = omega (arith, front_long c.before.before.before.before.before.before, stored-copied c.args.extent c.args.m c.requires.noted) }
+copy_numbers-requires c = record { room = omega (arith, front_long (goal.at.copy_numbers-requires c).Start, stored-copied c.args.extent c.args.m c.requires.noted) }
 
 pub overflow_mul-kept : goal.overflow_mul-kept
 overflow_mul-kept c = omega (arith, kept-room c.args.extent c.args.m c.requires.noted c.finish-rows.ensures.finished)
@@ -51,18 +50,10 @@ copied : (c : After-copy_numbers) →
     let numbers = c.args.extent.k * c.args.extent.shape.n in
     take numbers c.copy_numbers.new.into ≡ take numbers c.args.list.now
 copied c =
-    ap (λ (l : ℕ). take l c.copy_numbers.new.into) (sym (front_long c.before.before.before.before.before.before)) ∙ c.copy_numbers.ensures.copied
+    ap (λ (l : ℕ). take l c.copy_numbers.new.into) (sym (front_long (goal.at.After-copy_numbers c).Start)) ∙ c.copy_numbers.ensures.copied
 
 pub arrange-requires : goal.arrange-requires
-arrange-requires c = record { arrangeable = arrangeable c.args.extent c.args.m c.requires.noted c.finish-rows.ensures.finished (copied c.before.before.before.before.before.before.before.before.before.before) c.finish-rows.auto.list }
-
--- TODO no goal same-length
--- same_length : tie.Need-same-length
--- same_length c = search rules
-
--- TODO no goal same-length-2
--- same-length-2 : tie.Need-same-length-2
--- same-length-2 c = search rules
+arrange-requires c = record { arrangeable = arrangeable c.args.extent c.args.m c.requires.noted c.finish-rows.ensures.finished (copied (goal.at.arrange-requires c).After-copy_numbers) c.finish-rows.auto.list }
 
 pub returns : goal.returns
-returns c = record { arranged = arranged_is c.args.extent c.args.m c.requires.noted c.finish-rows.ensures.finished (copied c.before.before.before.before.before.before.before.before.before.before.before.before) (length c.args.coefficients.now) c.arrange.ensures.arranged }
+returns c = record { arranged = arranged_is c.args.extent c.args.m c.requires.noted c.finish-rows.ensures.finished (copied (goal.at.returns c).After-copy_numbers) (length c.args.coefficients.now) c.arrange.ensures.arranged }

@@ -13,9 +13,8 @@ use Rattle.admission.proofs.Tests.{admission-members, admission-refused}
 use Rattle.moves.proofs.Tables.{held-table}
 use Rattle.certified_lists.proofs.Admitted.{admitted-room, fits-order, held-closed}
 use Rattle.certified_lists.proofs.Ends.{finds-refused, finds-admitted, listing-unadmitted}
-use borrow.Author.Rules.{rules}
 use Rattle.certified_lists.proofs.make_certified.Goals as goal
-use Rattle.certified_lists.proofs.make_certified.Goals.{After-admit-admission, In-Members-2, Start}
+use Rattle.certified_lists.proofs.make_certified.Goals.{After-admit-admission, In-Members, Start}
 
 -- the order that was sent, and the sizes of the areas
 module _ (s : Start) where
@@ -37,7 +36,7 @@ module _ (s : Start) where
 -- what 5 to 11 came to
 module _ (c : After-admit-admission) where
   abbrev start : Start
-  start = c.before.before.before.before.before
+  start = (goal.at.After-admit-admission c).Start
 
   fault-is : admission_fault (sent start) (group_size start) c.certified_fits-fits.result ≡ fault start
   fault-is =
@@ -53,52 +52,43 @@ module _ (c : After-admit-admission) where
   held-long = c.admit-admission.auto.group
 
 -- none of them is met
-module _ (c : In-Members-2) where
+module _ (c : In-Members) where
   abbrev t : After-admit-admission
-  t = c.before.before.before.before
+  t = (goal.at.In-Members c).After-admit-admission
 
-  passed : (fault t.before.before.before.before.before ≡ None)
-      × (c.admission-in-Members-1.given.0.0 ≡ length (table_of (sent t.before.before.before.before.before) (group_size t.before.before.before.before.before)))
-  passed = admission-members _ _ (sym c.admission-in-Members-1.given.1 ∙ came t)
+  passed : (fault (start t) ≡ None)
+      × (c.in-Members.g ≡ length (table_of (sent (start t)) (group_size (start t))))
+  passed = admission-members _ _ (sym c.in-Members.is ∙ came t)
 
-  admitted : Admitted (sent t.before.before.before.before.before) (group_size t.before.before.before.before.before)
-      (certified_fits (sent t.before.before.before.before.before) (list_size t.before.before.before.before.before) (size t.before.before.before.before.before))
-  admitted = admission-none (sent t.before.before.before.before.before) (group_size t.before.before.before.before.before) _ passed.0
+  admitted : Admitted (sent (start t)) (group_size (start t))
+      (certified_fits (sent (start t)) (list_size (start t)) (size (start t)))
+  admitted = admission-none (sent (start t)) (group_size (start t)) _ passed.0
 
   held : t.admit-admission.new.group
-      ≡ filled 0 (group_size t.before.before.before.before.before) (concat (table_of (sent t.before.before.before.before.before) (group_size t.before.before.before.before.before)))
+      ≡ filled 0 (group_size (start t)) (concat (table_of (sent (start t)) (group_size (start t))))
   held = t.admit-admission.ensures.tabled.held (fault-is t ∙ passed.0)
 
--- TODO no goal enum-known-admission-2
--- enum-known-admission-2 : tie.Need-enum-known-admission-2
--- enum-known-admission-2 c = search rules
-
 pub complete_certified-requires : goal.complete_certified-requires
-complete_certified-requires c = record { closed = held-closed (sent c.before.before.before.before.before.before.before.before.before.before.before.before.before) (list_size c.before.before.before.before.before.before.before.before.before.before.before.before.before) (group_size c.before.before.before.before.before.before.before.before.before.before.before.before.before) (size c.before.before.before.before.before.before.before.before.before.before.before.before.before) (admitted c.before.before.before.before) (held c.before.before.before.before) (held-long c.before.before.before.before.before.before.before.before) (passed c.before.before.before.before).1; room = admitted-room (sent c.before.before.before.before.before.before.before.before.before.before.before.before.before) (list_size c.before.before.before.before.before.before.before.before.before.before.before.before.before) (group_size c.before.before.before.before.before.before.before.before.before.before.before.before.before) (size c.before.before.before.before.before.before.before.before.before.before.before.before.before) (admitted c.before.before.before.before) }
-
--- TODO no goal same-length
--- same_length : tie.Need-same-length
--- same_length c = search rules
+complete_certified-requires c =
+    let s = (goal.at.complete_certified-requires c).Start in
+    let p = (goal.at.complete_certified-requires c).In-Members in
+    record { closed = held-closed (sent s) (list_size s) (group_size s) (size s) (admitted p) (held p) (held-long (goal.at.complete_certified-requires c).After-admit-admission) (passed p).1; room = admitted-room (sent s) (list_size s) (group_size s) (size s) (admitted p) }
 
 pub returns-in-Refused : goal.returns-in-Refused
 returns-in-Refused c =
-    record { found = finds-refused
-    (listing-unadmitted (sent c.before.before.before.before.before.before.before.before.before.before.before) (list_size c.before.before.before.before.before.before.before.before.before.before.before) (group_size c.before.before.before.before.before.before.before.before.before.before.before) (size c.before.before.before.before.before.before.before.before.before.before.before) _ _
-    (admission-refused _ _ (sym c.admission-1.given.1 ∙ came c.before.before.before.before.before.before))) }
-
--- TODO no goal same-length-2
--- same-length-2 : tie.Need-same-length-2
--- same-length-2 c = search rules
-
--- TODO no goal same-length-3
--- same-length-3 : tie.Need-same-length-3
--- same-length-3 c = search rules
-
--- TODO no goal same-length-4
--- same-length-4 : tie.Need-same-length-4
--- same-length-4 c = search rules
+    let s = (goal.at.returns-in-Refused c).Start in
+    record {
+      found = finds-refused
+          (listing-unadmitted (sent s) (list_size s) (group_size s) (size s) _ _
+          (admission-refused _ _ (sym c.in-Refused.is ∙ came (goal.at.returns-in-Refused c).After-admit-admission)));
+    }
 
 pub returns-in-Members : goal.returns-in-Members
 returns-in-Members c =
-    record { found = finds-admitted (sent c.before.before.before.before.before.before.before.before.before.before.before.before.before.before.before.before) (list_size c.before.before.before.before.before.before.before.before.before.before.before.before.before.before.before.before) (group_size c.before.before.before.before.before.before.before.before.before.before.before.before.before.before.before.before) (size c.before.before.before.before.before.before.before.before.before.before.before.before.before.before.before.before) (held-long c.before.before.before.before.before.before.before.before.before.before.before)
-    (held-table (admitted c.before.before.before.before.before.before.before) (held c.before.before.before.before.before.before.before) (held-long c.before.before.before.before.before.before.before.before.before.before.before) (passed c.before.before.before.before.before.before.before).1) (passed c.before.before.before.before.before.before.before).0 c.complete_certified.ensures.found }
+    let s = (goal.at.returns-in-Members c).Start in
+    let p = (goal.at.returns-in-Members c).After-admit-admission in
+    let q = (goal.at.returns-in-Members c).In-Members in
+    record {
+      found = finds-admitted (sent s) (list_size s) (group_size s) (size s) (held-long p)
+          (held-table (admitted q) (held q) (held-long p) (passed q).1) (passed q).0 c.complete_certified.ensures.found;
+    }

@@ -1,6 +1,5 @@
 -- `behind` meets its contract. Assumes nothing.
 use native.Mathlib.Omega.{arith}
-use borrow.Author.Rules.{rules}
 use Rattle.commands.proofs.Known.{width-most}
 use Rattle.commands.proofs.behind.Goals as goal
 

@@ -1,8 +1,7 @@
 -- `little_at` meets its contract. The invariant: the bytes from `at + i` on are read. Assumes nothing.
 use mathlib.Core.Path.{◌≡◌}
-use Prim.Native.Nat.{◌+◌, ◌-◌, ◌*◌, ◌<◌, ◌≤◌, ◌^◌}
+use Prim.Native.Nat.{◌+◌, ◌-◌, ◌*◌, ◌<◌, ◌^◌}
 use native.Mathlib.Omega.{arith}
-use borrow.Author.Rules.{rules}
 use Rattle.commands.specs.Decode.{little_at}
 use Rattle.commands.proofs.Little.{little-more, size-more, eight-bytes}
 use Rattle.commands.proofs.little_at.Goals as goal

@@ -5,7 +5,6 @@ use native.Mathlib.Omega.{arith}
 use lib.IntN.{negsuc}
 use Rattle.vectors.proofs.Negatives.{negated_fits, small}
 use Rattle.commands.proofs.Twos.{less-fits, less-read, signed_low, signed_high}
-use borrow.Author.Rules.{rules}
 use Rattle.commands.proofs.signed.Goals as goal
 
 pub returns-then-v-half : goal.returns-then-v-half

@@ -2,7 +2,6 @@
 use mathlib.Core.Path.{◌∙◌, ap}
 use Prim.Native.Nat.{◌^◌}
 use native.Mathlib.Omega.{arith}
-use borrow.Author.Rules.{rules}
 use Rattle.commands.specs.Decode.{signed_of}
 use Rattle.commands.proofs.Twos.{cast_fits, cast-read}
 use Rattle.commands.proofs.word_at.Goals as goal

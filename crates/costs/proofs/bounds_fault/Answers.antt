@@ -1,16 +1,14 @@
 -- `bounds_fault` meets its contract. The invariant: what is left of the test is the whole test. Assumes nothing.
 use mathlib.Core.Path.{◌≡◌, sym, ap₂, ◌∙◌}
 use mathlib.Core.Bool.{Bool, ◌||◌, not}
-use Prim.Native.Nat.{ℕ, ◌-◌}
+use Prim.Native.Nat.{ℕ}
 use native.Mathlib.Omega.{arith}
 use lib.IntN.{pos}
 use lib.ListN.{length, get_or}
-use Rattle.definitions.specs.Refusals.{fault_from}
 use Rattle.definitions.specs.Plan.{is_misplanned}
 use Rattle.theory.proofs.Faults.{fault-start}
 use Rattle.vectors.proofs.Cells.{read_back}
 use Rattle.refusals.proofs.Turns.{met-end, met-here, met_next}
-use Rattle.costs.specs.Problems.{bounds_fault}
 use Rattle.costs.proofs.Tests.{misplanned}
 use Rattle.costs.proofs.bounds_fault.Goals as goal
 use Rattle.costs.proofs.bounds_fault.Goals.{After-is_bounded-in-loop-cell, Start}
@@ -53,8 +51,10 @@ told c =
 
 pub returns-then-is_bounded : goal.returns-then-is_bounded
 returns-then-is_bounded c =
-    record { found = met-here 26 (count c.before.before.before.before.before.before.before) (met c.before.before.before.before.before.before.before) c.loop-cell.cell c.loop-cell.invariant (omega arith)
-    (sym (told c.before) ∙ c.if-is_bounded.true) }
+    record {
+      found = met-here 26 (count c.before.before.before.before.before.before.before) (met c.before.before.before.before.before.before.before) c.loop-cell.cell c.loop-cell.invariant (omega arith)
+          (sym (told c.before) ∙ c.if-is_bounded.true);
+    }
 
 pub overflow_add-cell : goal.overflow_add-cell
 overflow_add-cell c = omega arith

@@ -1,15 +1,8 @@
 -- `bounds_fault` meets its contract. The invariant: what is left of the test is the whole test. Assumes nothing.
-use mathlib.Core.Path.{◌≡◌, sym, ap₂, ◌∙◌}
-use mathlib.Core.Bool.{Bool, ◌||◌, not}
-use Prim.Native.Nat.{ℕ, ◌-◌}
-use native.Mathlib.Omega.{arith}
-use lib.IntN.{pos}
-use lib.ListN.{length, get_or}
+use mathlib.Core.Path.{◌≡◌}
+use Prim.Native.Nat.{◌-◌}
+use lib.ListN.{length}
 use Rattle.definitions.specs.Refusals.{fault_from}
-use Rattle.definitions.specs.Plan.{is_misplanned}
-use Rattle.theory.proofs.Faults.{fault-start}
-use Rattle.vectors.proofs.Cells.{read_back}
-use Rattle.refusals.proofs.Turns.{met-end, met-here, met_next}
 use Rattle.costs.specs.Problems.{bounds_fault}
 use Rattle.costs.proofs.Tests.{misplanned}
 use Rattle.costs.proofs.bounds_fault.Given as goal

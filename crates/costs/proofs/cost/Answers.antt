@@ -1,10 +1,8 @@
 -- `cost` meets its contract. The invariant: the sum is the cost of the cells from `i` on. Assumes nothing.
 use mathlib.Core.Path.{◌≡◌, ap, ◌∙◌}
-use Prim.Native.Nat.{ℕ, ◌≤◌}
+use Prim.Native.Nat.{ℕ}
 use native.Mathlib.Omega.{arith}
 use lib.ListN.{drop}
-use mir.Syntax.{w64}
-use mir.Val.{to_z}
 use Rattle.definitions.specs.Limits.{cells}
 use Rattle.definitions.specs.Plan.{cost}
 use Rattle.vectors.proofs.Cells.{read_back, wide_fits}
@@ -50,11 +48,10 @@ pub loop-i-smaller : goal.loop-i-smaller
 loop-i-smaller c = omega arith
 
 pub loop-i-preserved : goal.loop-i-preserved
-loop-i-preserved c =
-    (
-      omega arith,
-      sum-read (asked c.before.before.before.before) c.loop-i.i (omega arith) c.loop-i.invariant.0 c.loop-i.invariant.1,
-    )
+loop-i-preserved c = (
+  omega arith,
+  sum-read (asked c.before.before.before.before) c.loop-i.i (omega arith) c.loop-i.invariant.0 c.loop-i.invariant.1,
+)
 
 pub returns : goal.returns
 returns c = let e : c.loop-i.i ≡ 0 = omega arith in record { made = c.loop-i.invariant.1 ∙ ap (λ (i : ℕ). cost (drop i c.args.costs) (drop i c.args.v)) e }

@@ -1,12 +1,8 @@
 -- `feasible` meets its contract. The invariant: the answer so far, with that for the cells left, is the answer.
 -- Assumes nothing.
 use mathlib.Core.Path.{◌≡◌, refl}
-use mathlib.Core.Bool.{◌&&◌}
-use Prim.Native.Nat.{◌-◌}
 use native.Mathlib.Omega.{arith}
-use lib.ListN.{drop}
-use Rattle.definitions.specs.Limits.{cells}
-use Rattle.definitions.specs.Plan.{feasible, is_bounded}
+use Rattle.definitions.specs.Plan.{is_bounded}
 use Rattle.vectors.proofs.Cells.{read_back}
 use Rattle.vectors.proofs.Kit.{cell_at}
 use Rattle.vectors.proofs.Support.{kept-end, kept_more}

@@ -20,13 +20,13 @@ module _ (s : Start) where
   inside = naturals bound entry s.requires.bounded
 
   bound-read : to_z w32 (of_z w32 bound) ≡ bound
-  bound-read = to_z-of_z s.fits.bound
+  bound-read = to_z-of_z {w = w32} s.ranges.bound
 
   entry_read : to_z w32 (of_z w32 entry) ≡ entry
-  entry_read = to_z-of_z s.fits.x
+  entry_read = to_z-of_z {w = w32} s.ranges.x
 
   rest_read : to_z w32 (of_z w32 (bound -ℤ entry)) ≡ bound -ℤ entry
-  rest_read = to_z-of_z (rest-fits inside s.fits.bound)
+  rest_read = to_z-of_z {w = w32} (rest-fits inside s.ranges.bound)
 
 pub overflow_sub-rest : goal.overflow_sub-rest
 overflow_sub-rest c = simp (bound-read c, entry_read c) (rest-fits (inside c) c.ranges.bound)

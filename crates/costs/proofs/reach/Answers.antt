@@ -2,7 +2,7 @@
 -- Assumes nothing.
 use mathlib.Core.Path.{◌≡◌, ap, ◌∙◌}
 use mathlib.Core.Bool.{true}
-use Prim.Native.Nat.{ℕ, ◌≤◌, ◌<◌, ◌-◌, ◌*◌, ◌^◌}
+use Prim.Native.Nat.{ℕ, ◌<◌, ◌-◌, ◌^◌}
 use native.Mathlib.Omega.{arith}
 use lib.IntN.{ℤ}
 use lib.ListN.{drop}
@@ -72,17 +72,16 @@ pub loop-i-smaller : goal.loop-i-smaller
 loop-i-smaller c = omega arith
 
 pub loop-i-preserved : goal.loop-i-preserved
-loop-i-preserved c =
-    (
-      omega arith,
-      omega (arith, small c, c.loop-i.invariant.1),
-      omega (
-        arith,
-        told c,
-        c.loop-i.invariant.2,
-        reach-cell c.args.upper c.args.x c.loop-i.i (omega arith) (omega arith) (omega arith),
-      ),
-    )
+loop-i-preserved c = (
+  omega arith,
+  omega (arith, small c, c.loop-i.invariant.1),
+  omega (
+    arith,
+    told c,
+    c.loop-i.invariant.2,
+    reach-cell c.args.upper c.args.x c.loop-i.i (omega arith) (omega arith) (omega arith),
+  ),
+)
 
 pub returns : goal.returns
 returns c = let e : c.loop-i.i ≡ 0 = omega arith in record { made = c.loop-i.invariant.2 ∙ ap (λ (i : ℕ). reach (drop i c.args.upper) (drop i c.args.x)) e }

@@ -1,8 +1,6 @@
 -- `add_draw` meets its contract: the entries have headroom, and so has the image. Assumes nothing.
 use mathlib.Core.Path.{◌≡◌, sym, ◌∙◌}
 use mathlib.Core.Bool.{true}
-use borrow.Author.Rules.{rules}
-use borrow.Author.Tests.{not-false, not-true}
 use Rattle.draws.specs.Draws.{names_in}
 use Rattle.draws.proofs.Images.{contingency-within, image-within}
 use Rattle.draws.proofs.Drawing.{draws-image, draws-none}
@@ -17,12 +15,14 @@ Else-not-names = Lts.Else1 Tie.the-claims Reads.Pre Reads.Post Tie.handed_clause
 
 pub returns-then-not-names : goal.returns-then-not-names
 returns-then-not-names c =
-    record { drawn = draws-none c.args.extent c.args.list.now c.args.group.now c.args.draw c.args.current
-    (sym c.names.ensures.told ∙ not-true c.names.result (ap not c.if-not-names.true)) }
+    record {
+      drawn = draws-none c.args.extent c.args.list.now c.args.group.now c.args.draw c.args.current
+          (sym c.names.ensures.told ∙ c.if-not-names.true);
+    }
 
 -- the record names an image
 named : (c : Else-not-names) → names_in c.args.extent c.args.draw ≡ true
-named c = sym c.names.ensures.told ∙ not-false c.names.result (ap not c.if-not-names.false)
+named c = sym c.names.ensures.told ∙ c.if-not-names.false
 
 pub drawn_image-image-requires : goal.drawn_image-image-requires
 drawn_image-image-requires c = record { listed = c.requires.listed; named = named c.before }
@@ -32,5 +32,7 @@ plus-table-requires c = record { first_bounded = contingency-within c.args.curre
 
 pub returns : goal.returns
 returns c =
-    record { drawn = draws-image c.args.extent c.args.list.now c.args.group.now c.args.draw c.args.current (named c.before.before.before.before)
-    c.drawn_image-image.ensures.image c.plus-table.ensures.made c.is_contingency-fits.ensures.told }
+    record {
+      drawn = draws-image c.args.extent c.args.list.now c.args.group.now c.args.draw c.args.current (named c.before.before.before.before)
+          c.drawn_image-image.ensures.image c.plus-table.ensures.made c.is_contingency-fits.ensures.told;
+    }

@@ -1,6 +1,5 @@
 -- `chain_fits` meets its contract. Assumes nothing.
 use mathlib.Core.Bool.{and_assoc}
-use borrow.Author.Rules.{rules}
 use Rattle.definitions.specs.Window.{chain_fits}
 use Rattle.draws.proofs.chain_fits.Goals as goal
 

@@ -2,7 +2,7 @@
 use mathlib.Core.Path.{◌≡◌, refl, sym, ap, subst, ◌∙◌}
 use mathlib.Core.Bool.{true}
 use mathlib.Core.List.{List, []}
-use Prim.Native.Nat.{ℕ, suc, ◌-◌, ◌+◌, ◌/◌, ◌^◌, ◌<◌}
+use Prim.Native.Nat.{ℕ, suc, ◌+◌, ◌/◌, ◌^◌, ◌<◌}
 use native.Mathlib.Nat.{div-le_self}
 use native.Mathlib.Numerals.{add-one}
 use native.Mathlib.Omega.{arith}
@@ -17,8 +17,7 @@ use Rattle.figures.specs.Window.{Rows}
 use Rattle.draws.specs.Draws.{rows_in, table_in}
 use Rattle.draws.specs.Run.{Answers, Ran, visits_of}
 use Rattle.figures.proofs.Values.{fewer-rows}
-use Rattle.draws.proofs.Running.{Runs, row_named, run-begun, run-ended, run_on, run-refused, sum-filled}
-use borrow.Author.Rules.{rules}
+use Rattle.draws.proofs.Running.{row_named, run-begun, run-ended, run_on, run-refused, sum-filled}
 use Rattle.draws.proofs.draw_records.Goals as goal
 use Rattle.draws.proofs.draw_records.Goals.{Start}
 use Rattle.draws.proofs.draw_records.Lts
@@ -73,20 +72,16 @@ draw_at-draw-requires c = record { sent = omega (arith, c.loop-i.invariant.2) }
 pub add_draw-next-requires : goal.add_draw-next-requires
 add_draw-next-requires c = record { listed = c.requires.listed; entries = c.loop-i.invariant.0.entries }
 
--- TODO no goal same-length
--- same_length : tie.Need-same-length invariant-loop decreases-loop
--- same_length c = c.before.before.before.before.before.loop.invariant.1
-
 pub returns-then-not-next : goal.returns-then-not-next
 returns-then-not-next c =
     let a = c.args in
-    let n = c.loop-i in record { ran = run-refused a.view a.extent a.list.now a.group.now a.start a.records.now n.invariant.0 (inside c.before.before.before) (sym (told c.before.before.before) ∙ not-true c.add_draw-next.result.fits (ap not c.if-not-next.true)) }
+    let n = c.loop-i in record { ran = run-refused a.view a.extent a.list.now a.group.now a.start a.records.now n.invariant.0 (inside c.before.before.before) (sym (told c.before.before.before) ∙ not-true c.add_draw-next.result.fits c.if-not-next.true) }
 
 pub answer-figures-requires : goal.answer-figures-requires
 answer-figures-requires c =
     let a = c.args in
     let n = c.loop-i in
-    let fits = not-false c.add_draw-next.result.fits (ap not c.if-not-next.false) in
+    let fits = not-false c.add_draw-next.result.fits c.if-not-next.false in
     let drawable = sym (told c.before.before.before.before.before.before) ∙ fits in
     let table : c.add_draw-next.result.table ≡ plus n.table (image c.before.before.before.before.before.before) = reached c.before.before.before.before.before.before fits in record { viewable = c.requires.viewable; named = record { sent = inside c.before.before.before.before.before.before; rows = row_named a.view a.extent a.list.now a.group.now a.start a.records.now n.invariant.0 (inside c.before.before.before.before.before.before) drawable c.requires.listed }; rows = room c.before.before.before.before.before.before; filled = rw table (sum-filled a.view a.extent a.list.now a.group.now a.start a.records.now n.invariant.0 (inside c.before.before.before.before.before.before) drawable c.requires.listed c.requires.same); shown = n.invariant.0.shown }
 
@@ -100,7 +95,7 @@ pub loop-i-preserved : goal.loop-i-preserved
 loop-i-preserved c =
     let a = c.args in
     let n = c.loop-i in
-    let fits = not-false c.add_draw-next.result.fits (ap not c.if-not-next.false) in
+    let fits = not-false c.add_draw-next.result.fits c.if-not-next.false in
     let drawable = sym (told c.before.before.before.before.before.before.before.before.before) ∙ fits in
     let table : c.add_draw-next.result.table ≡ plus n.table (image c.before.before.before.before.before.before.before.before.before) = reached c.before.before.before.before.before.before.before.before.before fits in
     let x = c.answer-figures in
@@ -108,18 +103,16 @@ loop-i-preserved c =
     let long = x.auto.answers in
     let on =
     run_on a.view a.extent a.list.now a.group.now a.start a.records.now n.invariant.0 (inside c.before.before.before.before.before.before.before.before.before) drawable answers x.new.uses x.result
-    c.requires.viewable (room c.before.before.before.before.before.before.before.before.before) long x.ensures.0
+    c.requires.viewable (room c.before.before.before.before.before.before.before.before.before) long x.ensures.shows
     (sum-filled a.view a.extent a.list.now a.group.now a.start a.records.now n.invariant.0 (inside c.before.before.before.before.before.before.before.before.before) drawable c.requires.listed c.requires.same)
-    (subst (Answers a.view a.records.now n.answers answers n.i) table x.ensures.1) c.requires.listed in
+    (subst (Answers a.view a.records.now n.answers answers n.i) table x.ensures.answers) c.requires.listed in
     (rw (table, add-one n.i) on, long ∙ n.invariant.1, n.invariant.2)
-
--- TODO no goal same-length-2
--- same-length-2 : tie.Need-same-length-2 invariant-loop decreases-loop
--- same-length-2 c = c.before.loop.invariant.1
 
 pub returns : goal.returns
 returns c =
     let a = c.args in
     let n = c.loop-i in
-    let e : n.i ≡ length a.records.now / record_width = omega (arith, n.invariant.2, n.invariant.0.few) in record { ran = subst (Ran a.view (visits_of a.extent a.list.now a.group.now a.start a.records.now) n.answers) e
-    (run-ended a.view a.extent a.list.now a.group.now a.start a.records.now n.invariant.0 (omega (arith, n.invariant.2))) }
+    let e : n.i ≡ length a.records.now / record_width = omega (arith, n.invariant.2, n.invariant.0.few) in record {
+      ran = subst (Ran a.view (visits_of a.extent a.list.now a.group.now a.start a.records.now) n.answers) e
+          (run-ended a.view a.extent a.list.now a.group.now a.start a.records.now n.invariant.0 (omega (arith, n.invariant.2)));
+    }

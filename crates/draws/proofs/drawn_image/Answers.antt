@@ -3,7 +3,6 @@ use mathlib.Core.Path.{◌≡◌, sym, ap, ap₂, ◌∙◌}
 use mathlib.Core.List.{[]}
 use Prim.Native.Nat.{ℕ, ◌+◌, ◌*◌, ◌≤◌}
 use native.Mathlib.Omega.{arith}
-use borrow.Author.Rules.{rules}
 use lib.IntN.{pos, nat_abs}
 use lib.ListN.{length, get_or, take, drop}
 use lib.Signed.{le_z, non_neg}
@@ -63,7 +62,7 @@ position-is c =
     c.magnitude-position.ensures.counted ∙ ap nat_abs (read_back draw.position c.struct_told-2-1.given.1.0.1)
 
 pub image_at-image-requires : goal.image_at-image-requires
-image_at-image-requires c = record { shaped = c.requires.listed.is_table; position = rw (position-is c.before) (position-below c.requires.listed c.args.draw c.requires.named) }
+image_at-image-requires c = record { shaped = c.requires.listed.is_table; position = rw (position-is c.before.before) (position-below c.requires.listed c.args.draw c.requires.named) }
 
 -- the image before its sign
 plain-is : (c : After-image_at-image) →
@@ -88,9 +87,11 @@ sign_read c =
 pub returns-then-draw-ge0 : goal.returns-then-draw-ge0
 unfolding signed
 returns-then-draw-ge0 c =
-    record { image = plain-is c.before.before.before.before
-    ∙ image-signed c.args.extent c.args.list.now c.args.group.now c.args.draw
-    (sym (sign_read c.before.before) ∙ c.if-draw-ge0.true) }
+    record {
+      image = plain-is c.before.before.before.before
+          ∙ image-signed c.args.extent c.args.list.now c.args.group.now c.args.draw
+          (sym (sign_read c.before.before) ∙ c.if-draw-ge0.true);
+    }
 
 pub negative-requires : goal.negative-requires
 negative-requires c = record { bounded = rw (plain-is c.before.before.before.before) (plain-within c.requires.listed c.args.draw c.requires.named) }
@@ -98,7 +99,9 @@ negative-requires c = record { bounded = rw (plain-is c.before.before.before.bef
 pub returns : goal.returns
 unfolding signed
 returns c =
-    record { image = c.negative.ensures.made
-    ∙ ap negative (plain-is c.before.before.before.before.before)
-    ∙ image-signed c.args.extent c.args.list.now c.args.group.now c.args.draw
-    (sym (sign_read c.before.before.before) ∙ c.if-draw-ge0.false) }
+    record {
+      image = c.negative.ensures.made
+          ∙ ap negative (plain-is c.before.before.before.before.before)
+          ∙ image-signed c.args.extent c.args.list.now c.args.group.now c.args.draw
+          (sym (sign_read c.before.before.before) ∙ c.if-draw-ge0.false);
+    }

@@ -1,13 +1,8 @@
 -- `is_contingency` meets its contract. The invariant: the answer so far, with that for the entries left, is the answer.
 -- Assumes nothing.
 use mathlib.Core.Path.{◌≡◌, ap, ◌∙◌}
-use mathlib.Core.Bool.{◌&&◌}
-use Prim.Native.Nat.{◌-◌}
 use native.Mathlib.Omega.{arith}
-use lib.ListN.{drop}
-use Rattle.definitions.specs.Limits.{cells}
-use Rattle.definitions.specs.Lists.{every}
-use Rattle.definitions.specs.Window.{is_contingency, is_entry}
+use Rattle.definitions.specs.Window.{is_entry}
 use Rattle.vectors.proofs.Cells.{read_back}
 use Rattle.vectors.proofs.Kit.{cell_at}
 use Rattle.draws.proofs.Entries.{kept-end, kept_more, kept-start}

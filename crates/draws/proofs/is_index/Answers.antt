@@ -2,7 +2,6 @@
 use mathlib.Core.Path.{ap, ◌∙◌}
 use lib.IntN.{nat_abs}
 use mir.Facts.{to_z-of_z}
-use borrow.Author.Rules.{rules}
 use Rattle.definitions.specs.Window.{is_index}
 use Rattle.draws.proofs.Entries.{sign-is}
 use Rattle.draws.proofs.is_index.Goals as goal

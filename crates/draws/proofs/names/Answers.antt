@@ -1,7 +1,6 @@
 -- `names` meets its contract. Assumes nothing.
 use mathlib.Core.Path.{ap, ◌∙◌}
 use lib.IntN.{nat_abs}
-use borrow.Author.Rules.{rules}
 use Rattle.definitions.specs.Window.{is_index}
 use Rattle.vectors.proofs.Cells.{read_back}
 use Rattle.draws.proofs.names.Goals as goal

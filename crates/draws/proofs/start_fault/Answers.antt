@@ -1,17 +1,14 @@
 -- `start_fault` meets its contract. The invariant: what is left of the test is the whole test. Assumes nothing.
 use mathlib.Core.Path.{◌≡◌, sym, ap, ◌∙◌}
 use mathlib.Core.Bool.{Bool, not}
-use mathlib.Core.List.{List}
-use Prim.Native.Nat.{ℕ, ◌-◌}
+use Prim.Native.Nat.{ℕ}
 use native.Mathlib.Omega.{arith}
-use lib.IntN.{ℤ, pos}
+use lib.IntN.{pos}
 use lib.ListN.{length, get_or}
-use Rattle.definitions.specs.Refusals.{fault_from}
 use Rattle.definitions.specs.Window.{is_entry}
 use Rattle.theory.proofs.Faults.{fault-start}
 use Rattle.vectors.proofs.Cells.{read_back}
 use Rattle.refusals.proofs.Turns.{met-end, met-here, met_next}
-use Rattle.draws.specs.Draws.{start_fault}
 use Rattle.draws.proofs.start_fault.Goals as goal
 use Rattle.draws.proofs.start_fault.Goals.{After-is_entry, Start}
 use Rattle.draws.proofs.start_fault.Invariants.{unfit}
@@ -42,8 +39,10 @@ told c =
 
 pub returns-then-not-is_entry : goal.returns-then-not-is_entry
 returns-then-not-is_entry c =
-    record { found = met-here 14 (count c.before.before.before.before.before) (met c.before.before.before.before.before) c.loop-cell.cell c.loop-cell.invariant (omega arith)
-    (sym (told c.before) ∙ (ap not c.if-not-is_entry.true)) }
+    record {
+      found = met-here 14 (count c.before.before.before.before.before) (met c.before.before.before.before.before) c.loop-cell.cell c.loop-cell.invariant (omega arith)
+          (sym (told c.before) ∙ (ap not c.if-not-is_entry.true));
+    }
 
 pub overflow_add-cell : goal.overflow_add-cell
 overflow_add-cell c = omega arith

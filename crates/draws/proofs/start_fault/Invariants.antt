@@ -1,16 +1,12 @@
 -- `start_fault` meets its contract. The invariant: what is left of the test is the whole test. Assumes nothing.
-use mathlib.Core.Path.{◌≡◌, sym, ap, ◌∙◌}
+use mathlib.Core.Path.{◌≡◌}
 use mathlib.Core.Bool.{Bool, not}
 use mathlib.Core.List.{List}
 use Prim.Native.Nat.{ℕ, ◌-◌}
-use native.Mathlib.Omega.{arith}
 use lib.IntN.{ℤ, pos}
 use lib.ListN.{length, get_or}
 use Rattle.definitions.specs.Refusals.{fault_from}
 use Rattle.definitions.specs.Window.{is_entry}
-use Rattle.theory.proofs.Faults.{fault-start}
-use Rattle.vectors.proofs.Cells.{read_back}
-use Rattle.refusals.proofs.Turns.{met-end, met-here, met_next}
 use Rattle.draws.specs.Draws.{start_fault}
 use Rattle.draws.proofs.start_fault.Given as goal
 

@@ -9,7 +9,6 @@ use lib.IntN.{ℤ, pos}
 use lib.ListN.{length, set, take}
 use lib.Seq.{lt-length-set, take-paste}
 use Rattle.draws.proofs.Writing.{set-three}
-use borrow.Author.Rules.{rules}
 use Rattle.draws.proofs.write_row.Goals as goal
 use Rattle.draws.proofs.write_row.Goals.{After-store}
 
@@ -31,18 +30,16 @@ bounds-answers-behind-3 c =
     let a = c.args in
     lt-length-set (set area (a.at + a.n) _) _ _ (lt-length-set area (a.at + a.n) _ r)
 
--- TODO no goal same-length
--- same_length : tie.Need-same-length
--- same_length c = search rules
-
 pub returns : goal.returns
 returns c =
     let a = c.args in
     let behind = a.at + a.n in
     let e : a.at + (a.n + 3) ≡ behind + 3 = omega arith in
-    let d : a.different < 2 ^ 31 = omega (arith, c.requires.few) in record { written = rw (to_z-of_z c.ranges.smallest, to_z-of_z c.ranges.largest, to_z_pos w32 d, e)
-    (set-three c.store.new.area behind a.smallest a.largest (pos a.different) (room c.before)
-    ∙ ap (λ (l : List ℤ). take behind l ++ a.smallest ∷ a.largest ∷ pos a.different ∷ []) c.store.ensures.stored
-    ∙ ap (λ (l : List ℤ). l ++ a.smallest ∷ a.largest ∷ pos a.different ∷ [])
-    (take-paste a.answers.now a.at a.table a.n (omega arith) (omega arith))
-    ∙ append_assoc (take a.at a.answers.now) (take a.n a.table) (a.smallest ∷ a.largest ∷ pos a.different ∷ [])) }
+    let d : a.different < 2 ^ 31 = omega (arith, c.requires.few) in record {
+      written = rw (to_z-of_z c.ranges.smallest, to_z-of_z c.ranges.largest, to_z_pos w32 d, e)
+          (set-three c.store.new.area behind a.smallest a.largest (pos a.different) (room c.before)
+          ∙ ap (λ (l : List ℤ). take behind l ++ a.smallest ∷ a.largest ∷ pos a.different ∷ []) c.store.ensures.stored
+          ∙ ap (λ (l : List ℤ). l ++ a.smallest ∷ a.largest ∷ pos a.different ∷ [])
+          (take-paste a.answers.now a.at a.table a.n (omega arith) (omega arith))
+          ∙ append_assoc (take a.at a.answers.now) (take a.n a.table) (a.smallest ∷ a.largest ∷ pos a.different ∷ []));
+    }

@@ -1,16 +1,11 @@
 -- `afresh` meets its contract. The invariant: the extremes are those of the values from row `j` on, and of the value behind
 -- them. Assumes nothing.
 use mathlib.Core.Path.{◌≡◌, ◌∙◌}
-use mathlib.Core.List.{[], ◌∷◌, ◌++◌}
-use Prim.Native.Nat.{◌≤◌}
 use native.Mathlib.Omega.{arith}
-use borrow.Author.Rules.{rules}
-use mir.Syntax.{w32}
-use mir.Val.{to_z}
 use mir.Facts.{to_z-of_z}
 use Rattle.definitions.specs.Window.{larger, lesser}
 use Rattle.vectors.proofs.Cells.{read_back}
-use Rattle.figures.specs.Window.{Spans, value_in, values_in}
+use Rattle.figures.specs.Window.{value_in}
 use Rattle.figures.proofs.Values.{fewer-rows, read_more, read_none}
 use Rattle.figures.proofs.afresh.Goals as goal
 

@@ -1,71 +1,68 @@
 -- `count_rows` meets its contract: after the one record has left and before the other comes in, the area counts the
 -- records that both windows share. Assumes nothing.
-use mathlib.Core.Logic.{⊎_elim}
-use mathlib.Core.Path.{sym, subst}
+use mathlib.Core.Path.{◌≡◌, sym, subst}
 use mathlib.Core.List.{List, ◌∷◌}
-use Prim.Native.Nat.{ℕ, suc, ◌-◌, ◌<◌}
+use Prim.Native.Nat.{ℕ, suc, ◌-◌, ◌≤◌, ◌<◌}
 use native.Mathlib.Omega.{arith}
-use borrow.Author.Rules.{rules}
 use lib.ListN.{get_or}
 use Rattle.definitions.specs.Limits.{list_limit}
-use Rattle.figures.specs.Window.{rows_in}
+use Rattle.figures.specs.Window.{row_in, rows_in}
 use Rattle.figures.proofs.Rows.{Tallied, leaving, leaving-less, leaving-some, same-zero, window-filling, window-full, window-next, window-room}
 use Rattle.figures.proofs.count_rows.Goals as goal
-use Rattle.figures.proofs.count_rows.Goals.{After-row_at-row-2, Joined-width-i, Start}
-use Rattle.figures.proofs.count_rows.Lts
-use Rattle.figures.proofs.count_rows.Reads
-use Rattle.figures.proofs.count_rows.Tie
-
--- what is known at the places that the lemmas below are about
-abbrev After-row_at-row : Type 0
-After-row_at-row = Lts.After-row_at Tie.the-claims Reads.Pre Reads.Post Tie.handed_clauses
+use Rattle.figures.proofs.count_rows.Goals.{After-row_at-row-2, Joined-width-i, Start, then-width-i, else-width-i}
 
 -- the rows of the records that both windows share
 abbrev shared : Start → List ℕ
 shared s = rows_in s.args.records.now (suc s.args.i - s.args.width) s.args.i
 
 -- the row that leaves
-first_small : (c : After-row_at-row) → c.row_at-row.result < list_limit
-first_small c =
-    rw c.row_at-row.ensures.row (c.requires.named.rows (c.args.i - c.args.width) (omega arith))
+module _ (s : Start) {row : ℕ} (e : row ≡ row_in s.args.records.now (s.args.i - s.args.width)) where
+  first_small : row < list_limit
+  first_small = rw e (s.requires.named.rows (s.args.i - s.args.width) (omega arith))
 
--- it stands in front
-full : (c : After-row_at-row) →
-    Tallied (c.row_at-row.result ∷ shared c.before.before.before) c.args.uses.now c.args.before
-full c =
-    subst (λ (x : ℕ). Tallied (x ∷ shared c.before.before.before) c.args.uses.now c.args.before) (sym c.row_at-row.ensures.row)
-    (window-full c.args.records.now c.args.width c.args.i c.requires.wide.0 c.if-width-i.true c.requires.counted)
+  -- it stands in front
+  full : s.args.width ≤ s.args.i → Tallied (row ∷ shared s) s.args.uses.now s.args.before
+  full h =
+      subst (λ (x : ℕ). Tallied (x ∷ shared s) s.args.uses.now s.args.before) (sym e)
+      (window-full s.args.records.now s.args.width s.args.i s.requires.wide.0 h s.requires.counted)
 
 pub leave-kept-requires : goal.leave-kept-requires
 leave-kept-requires c =
-    let t = full c.before in
-    let h = first_small c.before in record { room = omega (arith, t.long); some = leaving-some h t }
+    let s = (goal.at.leave-kept-requires c).Start in
+    let e = c.row_at-row.ensures.row in
+    let t = full s e c.if-width-i.true in
+    record { room = omega (arith, t.long, first_small s e); some = leaving-some (first_small s e) t }
 
 pub overflow_sub-kept : goal.overflow_sub-kept
-overflow_sub-kept c = rw c.leave-kept.ensures.1 (leaving-less (first_small c.before.before.before.before.before) (full c.before.before.before.before.before))
+overflow_sub-kept c =
+    let s = (goal.at.overflow_sub-kept c).Start in
+    let e = c.row_at-row.ensures.row in
+    rw c.leave-kept.ensures.only (leaving-less (first_small s e) (full s e c.if-width-i.true))
 
 -- the one record has left, or none has to
-middle : (c : Joined-width-i) → Tallied (shared c.before.before) c.if-width-i.uses c.if-width-i.auto
+middle : (c : Joined-width-i) → Tallied (shared c.before.before) c.if-width-i.uses c.if-width-i.kept
 middle c =
-    ⊎_elim
-    (λ w.
-    let b : tie.After-row-at = record { before = record { before = c.before; if1 = w.0 }; row_at = w.1 } in
-    rw (w.6, w.3.ensures.0, w.7, w.3.ensures.1) (leaving (first_small b) (full b)))
-    (λ w.
-    rw (w.1, w.2)
-    (window-filling c.args.records.now c.args.width c.args.i c.requires.wide.0 w.0.left c.requires.counted))
-    c.if-width-i.branch
+    let s = c.before.before in
+    elim c.if-width-i.branch [
+      | then-width-i w ↦
+          (let e = w.row_at-row.ensures.row in
+          rw (w.uses-is, w.leave-kept.ensures.used, w.kept-is, w.leave-kept.ensures.only)
+          (leaving (first_small s e) (full s e w.if-width-i.true)))
+      | else-width-i w ↦
+          rw (w.uses-is, w.kept-is)
+          (window-filling c.args.records.now c.args.width c.args.i c.requires.wide.0 w.if-width-i.false c.requires.counted)
+    ]
 
 -- the row that comes in
 module _ (c : After-row_at-row-2) where
   last-small : c.row_at-row-2.result < list_limit
   last-small =
-            rw c.row_at-row-2.ensures.row (c.requires.named.rows c.args.i (omega arith))
+      rw c.row_at-row-2.ensures.row (c.requires.named.rows c.args.i (omega arith))
 
   -- its uses and the count are below the width
-  room : (get_or c.if-width-i.uses c.row_at-row-2.result 0 < c.args.width) × (c.if-width-i.auto < c.args.width)
+  room : (get_or c.if-width-i.uses c.row_at-row-2.result 0 < c.args.width) × (c.if-width-i.kept < c.args.width)
   room =
-            window-room c.args.records.now c.args.width c.args.i c.requires.wide.0 last-small (middle c.before)
+      window-room c.args.records.now c.args.width c.args.i c.requires.wide.0 last-small (middle c.before)
 
 pub enter-requires : goal.enter-requires
 enter-requires c =
@@ -75,13 +72,11 @@ enter-requires c =
 pub overflow_add-result : goal.overflow_add-result
 overflow_add-result c =
     omega
-    (arith, room c.before.before.before.before.before.before, c.enter.ensures.1, same-zero (get_or c.if-width-i.uses c.row_at-row-2.result 0))
+    (arith, room c.before.before.before.before.before.before, c.enter.ensures.first, same-zero (get_or c.if-width-i.uses c.row_at-row-2.result 0))
 
 pub returns : goal.returns
 returns c =
-    let e = c.enter.ensures in record { counts = rw (e.0, e.1, c.row_at-row-2.ensures.row)
-    (window-next c.args.records.now c.args.width c.args.i c.requires.wide.0 (c.requires.named.rows c.args.i (omega arith)) (middle c.before.before.before.before.before.before.before)) }
-
--- TODO no goal same-length
--- same_length : tie.Need-same-length
--- same_length c = omega (arith, (returns c).long)
+    let e = c.enter.ensures in record {
+      counts = rw (e.used, e.first, c.row_at-row-2.ensures.row)
+          (window-next c.args.records.now c.args.width c.args.i c.requires.wide.0 (c.requires.named.rows c.args.i (omega arith)) (middle c.before.before.before.before.before.before.before));
+    }

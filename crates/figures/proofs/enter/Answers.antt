@@ -1,19 +1,10 @@
 -- `enter` meets its contract: the use is stored, and it is the first if there was none. Assumes nothing.
 use native.Mathlib.Numerals.{add-one}
 use borrow.Author.Tests.{ne_eqb}
-use borrow.Author.Rules.{rules}
 use Rattle.figures.proofs.enter.Goals as goal
-
--- TODO no goal same-length
--- same_length : tie.Need-same-length
--- same_length c = search rules
 
 pub returns-then-before-eq0 : goal.returns-then-before-eq0
 returns-then-before-eq0 c = record { used = rw add-one; first = rw c.if-before-eq0.true }
-
--- TODO no goal same-length-2
--- same-length-2 : tie.Need-same-length-2
--- same-length-2 c = search rules
 
 pub returns-else-before-eq0 : goal.returns-else-before-eq0
 returns-else-before-eq0 c = record { used = rw add-one; first = rw (ne_eqb _ _ c.if-before-eq0.false) }

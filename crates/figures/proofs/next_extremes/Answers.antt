@@ -1,6 +1,5 @@
 -- `next_extremes` meets its contract: the window is read afresh, or what leaves it was none of its extremes. Assumes nothing.
 use mathlib.Core.Path.{◌∙◌}
-use borrow.Author.Rules.{rules}
 use mir.Facts.{to_z-of_z}
 use Rattle.vectors.proofs.Cells.{read_back}
 use Rattle.figures.specs.Window.{value_in}
@@ -18,11 +17,13 @@ returns c =
     let given = c.struct_told-1.given in
     let v = to_z-of_z c.ranges.value in
     let t = telling a.view a.answers.now a.i a.before c.is_stale.ensures.told c.if-is_stale.false in
-    let f = value_in a.view a.answers.now in record { spans = record {
-      smallest =
-          read_back low.result low.type_inv ∙ (rw (read_back a.before.smallest given.0.1, v) at low.ensures.told)
-          ∙ window-moved lesser-choice f a.value a.view.width a.i a.before.smallest c.requires.viewable.some t.some c.requires.spanned.smallest t.smallest;
-      largest =
-          read_back high.result high.type_inv ∙ (rw (read_back a.before.largest given.1.0.1, v) at high.ensures.told)
-          ∙ window-moved larger-choice f a.value a.view.width a.i a.before.largest c.requires.viewable.some t.some c.requires.spanned.largest t.largest;
-    } }
+    let f = value_in a.view a.answers.now in record {
+      spans = record {
+        smallest =
+            read_back low.result low.type_inv ∙ (rw (read_back a.before.smallest given.0.1, v) at low.ensures.told)
+            ∙ window-moved lesser-choice f a.value a.view.width a.i a.before.smallest c.requires.viewable.some t.some c.requires.spanned.smallest t.smallest;
+        largest =
+            read_back high.result high.type_inv ∙ (rw (read_back a.before.largest given.1.0.1, v) at high.ensures.told)
+            ∙ window-moved larger-choice f a.value a.view.width a.i a.before.largest c.requires.viewable.some t.some c.requires.spanned.largest t.largest;
+      };
+    }

@@ -1,6 +1,5 @@
 -- `row_at` meets its contract: the first number of a record is read, without its sign. Assumes nothing.
 use Prim.Native.Nat.{◌*◌}
-use borrow.Author.Rules.{rules}
 use lib.IntN.{pos}
 use lib.ListN.{get_or}
 use Rattle.definitions.specs.Limits.{record_width}

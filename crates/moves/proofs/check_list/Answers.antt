@@ -14,19 +14,8 @@ use Rattle.admission.proofs.Tests.{admission-members, admission-refused}
 use Rattle.moves.specs.Found.{Grouped, Sized}
 use Rattle.moves.proofs.Tables.{held-table, held-grouped}
 use Rattle.moves.proofs.Checkings.{checks-brought, checks-early, sized-none}
-use borrow.Author.Rules.{rules}
 use Rattle.moves.proofs.check_list.Goals as goal
-use Rattle.moves.proofs.check_list.Goals.{Start}
-use Rattle.moves.proofs.check_list.Lts
-use Rattle.moves.proofs.check_list.Reads
-use Rattle.moves.proofs.check_list.Tie
-
--- what is known at the places that the lemmas below are about
-abbrev After-admit-admission : Type 0
-After-admit-admission = Lts.After-admit Tie.the-claims Reads.Pre Reads.Post Tie.handed_clauses
-
-abbrev In-Members-2 : Type 0
-In-Members-2 = Lts.After-admission2 Tie.the-claims Reads.Pre Reads.Post Tie.handed_clauses
+use Rattle.moves.proofs.check_list.Goals.{After-admit-admission, In-Members, Start}
 
 -- the order that was sent, and what came with it
 module _ (s : Start) where
@@ -42,7 +31,7 @@ module _ (s : Start) where
 -- what 5 to 11 came to
 module _ (c : After-admit-admission) where
   abbrev start : Start
-  start = c.before.before.before.before.before
+  start = (goal.at.After-admit-admission c).Start
 
   fault-is : admission_fault (sent start) (size start) c.brought_fits-fits.result ≡ fault start
   unfolding brought_fits
@@ -55,15 +44,15 @@ module _ (c : After-admit-admission) where
   held-long = c.admit-admission.auto.group
 
 -- none of them is met
-module _ (c : In-Members-2) where
+module _ (c : In-Members) where
   abbrev t : After-admit-admission
-  t = c.before.before.before.before
+  t = (goal.at.In-Members c).After-admit-admission
 
   abbrev s : Start
-  s = t.before.before.before.before.before
+  s = (goal.at.In-Members c).Start
 
-  passed : (fault s ≡ None) × (c.admission-in-Members-1.given.0.0 ≡ length (table_of (sent s) (size s)))
-  passed = admission-members _ _ (sym c.admission-in-Members-1.given.1 ∙ came t)
+  passed : (fault s ≡ None) × (c.in-Members.g ≡ length (table_of (sent s) (size s)))
+  passed = admission-members _ _ (sym c.in-Members.is ∙ came t)
 
   admitted : Admitted (sent s) (size s) (brought_fits (sent s) s.args.rows.now s.args.coefficients.now)
   admitted = admission-none (sent s) (size s) _ passed.0
@@ -71,35 +60,32 @@ module _ (c : In-Members-2) where
   held : t.admit-admission.new.group ≡ filled 0 (size s) (concat (table_of (sent s) (size s)))
   held = t.admit-admission.ensures.tabled.held (fault-is t ∙ passed.0)
 
-  grouped : Grouped (record { n = s.args.n; g = c.admission-in-Members-1.given.0.0 }) s.args.generators.now t.admit-admission.new.group
+  grouped : Grouped (record { n = s.args.n; g = c.in-Members.g }) s.args.generators.now t.admit-admission.new.group
   grouped = held-grouped admitted held (held-long t) passed.1
 
   fits : Sized s.args.n s.args.generators.now s.args.rows.now s.args.coefficients.now
   fits = sized-none (sent s) s.args.rows.now s.args.coefficients.now (size s) admitted
 
--- TODO no goal enum-known-admission-2
--- enum-known-admission-2 : tie.Need-enum-known-admission-2
--- enum-known-admission-2 c = search rules
-
 pub brought_fault-fault-requires : goal.brought_fault-fault-requires
-brought_fault-fault-requires c = record { grouped = grouped c.before.before; sized = fits c.before.before }
+brought_fault-fault-requires c =
+    let p = (goal.at.brought_fault-fault-requires c).In-Members in
+    record { grouped = grouped p; sized = fits p }
 
 pub nonzero_div-rows : goal.nonzero_div-rows
-nonzero_div-rows c = let d = cells-none _ (admitted c.before.before.before).cells_pass in omega (arith, d.least)
+nonzero_div-rows c = let d = cells-none _ (admitted (goal.at.nonzero_div-rows c).In-Members).cells_pass in omega (arith, d.least)
 
 pub unless_faulty-requires : goal.unless_faulty-requires
-unless_faulty-requires c = record { few = ((fits c.before.before.before).few, (grouped c.before.before.before).small) }
-
--- TODO no goal same-length
--- same_length : tie.Need-same-length
--- same_length c = search rules
+unless_faulty-requires c =
+    let p = (goal.at.unless_faulty-requires c).In-Members in
+    record { few = ((fits p).few, (grouped p).small) }
 
 pub returns-in-Refused : goal.returns-in-Refused
-returns-in-Refused c = record { checked = checks-early (sent c.before.before.before.before.before.before.before.before.before.before.before) c.args.rows.now c.args.coefficients.now (size c.before.before.before.before.before.before.before.before.before.before.before) _ _ (admission-refused _ _ (sym c.admission-1.given.1 ∙ came c.before.before.before.before.before.before)) }
-
--- TODO no goal same-length-2
--- same-length-2 : tie.Need-same-length-2
--- same-length-2 c = search rules
+returns-in-Refused c =
+    let s = (goal.at.returns-in-Refused c).Start in
+    record { checked = checks-early (sent s) c.args.rows.now c.args.coefficients.now (size s) _ _ (admission-refused _ _ (sym c.in-Refused.is ∙ came (goal.at.returns-in-Refused c).After-admit-admission)) }
 
 pub returns-in-Members : goal.returns-in-Members
-returns-in-Members c = record { checked = checks-brought (sent c.before.before.before.before.before.before.before.before.before.before.before.before.before) c.args.rows.now c.args.coefficients.now (size c.before.before.before.before.before.before.before.before.before.before.before.before.before) (passed c.before.before.before.before).0 (held-table (admitted c.before.before.before.before) (held c.before.before.before.before) (held-long c.before.before.before.before.before.before.before.before) (passed c.before.before.before.before).1) (passed c.before.before.before.before).1 (held c.before.before.before.before) c.brought_fault-fault.ensures.met c.unless_faulty.ensures.told }
+returns-in-Members c =
+    let s = (goal.at.returns-in-Members c).Start in
+    let p = (goal.at.returns-in-Members c).In-Members in
+    record { checked = checks-brought (sent s) c.args.rows.now c.args.coefficients.now (size s) (passed p).0 (held-table (admitted p) (held p) (held-long (goal.at.returns-in-Members c).After-admit-admission) (passed p).1) (passed p).1 (held p) c.brought_fault-fault.ensures.met c.unless_faulty.ensures.told }

@@ -12,19 +12,8 @@ use Rattle.admission.specs.Admission.{admission_of}
 use Rattle.admission.proofs.Tests.{admission-members, admission-refused}
 use Rattle.moves.proofs.Tables.{held-table, held-grouped}
 use Rattle.moves.proofs.Ends.{finds-refused, finds-admitted, listing-unadmitted}
-use borrow.Author.Rules.{rules}
 use Rattle.moves.proofs.make_list_with.Goals as goal
-use Rattle.moves.proofs.make_list_with.Goals.{Start}
-use Rattle.moves.proofs.make_list_with.Lts
-use Rattle.moves.proofs.make_list_with.Reads
-use Rattle.moves.proofs.make_list_with.Tie
-
--- what is known at the places that the lemmas below are about
-abbrev After-admit-admission : Type 0
-After-admit-admission = Lts.After-admit Tie.the-claims Reads.Pre Reads.Post Tie.handed_clauses
-
-abbrev In-Members-2 : Type 0
-In-Members-2 = Lts.After-admission2 Tie.the-claims Reads.Pre Reads.Post Tie.handed_clauses
+use Rattle.moves.proofs.make_list_with.Goals.{After-admit-admission, In-Members, Start}
 
 -- the order that was sent, and the sizes of the areas
 module _ (s : Start) where
@@ -43,7 +32,7 @@ module _ (s : Start) where
 -- what 5 to 11 came to
 module _ (c : After-admit-admission) where
   abbrev start : Start
-  start = c.before.before.before.before.before.before.before
+  start = (goal.at.After-admit-admission c).Start
 
   fault-is : admission_fault (sent start) (size start) c.whole_rows-fits.result ≡ fault start
   fault-is = ap (admission_fault (sent start) (size start)) c.whole_rows-fits.ensures.told
@@ -55,48 +44,32 @@ module _ (c : After-admit-admission) where
   held-long = c.admit-admission.auto.group
 
 -- none of them is met
-module _ (c : In-Members-2) where
+module _ (c : In-Members) where
   abbrev t : After-admit-admission
-  t = c.before.before.before.before
+  t = (goal.at.In-Members c).After-admit-admission
 
-  passed : (fault t.before.before.before.before.before.before.before ≡ None) × (c.admission-in-Members-1.given.0.0 ≡ length (table_of (sent t.before.before.before.before.before.before.before) (size t.before.before.before.before.before.before.before)))
-  passed = admission-members _ _ (sym c.admission-in-Members-1.given.1 ∙ came t)
+  passed : (fault (start t) ≡ None) × (c.in-Members.g ≡ length (table_of (sent (start t)) (size (start t))))
+  passed = admission-members _ _ (sym c.in-Members.is ∙ came t)
 
-  admitted : Admitted (sent t.before.before.before.before.before.before.before) (size t.before.before.before.before.before.before.before) (whole_rows t.args.n (list_size t.before.before.before.before.before.before.before))
-  admitted = admission-none (sent t.before.before.before.before.before.before.before) (size t.before.before.before.before.before.before.before) _ passed.0
+  admitted : Admitted (sent (start t)) (size (start t)) (whole_rows t.args.n (list_size (start t)))
+  admitted = admission-none (sent (start t)) (size (start t)) _ passed.0
 
-  held : t.admit-admission.new.group ≡ filled 0 (size t.before.before.before.before.before.before.before) (concat (table_of (sent t.before.before.before.before.before.before.before) (size t.before.before.before.before.before.before.before)))
+  held : t.admit-admission.new.group ≡ filled 0 (size (start t)) (concat (table_of (sent (start t)) (size (start t))))
   held = t.admit-admission.ensures.tabled.held (fault-is t ∙ passed.0)
 
--- TODO no goal enum-known-admission-2
--- enum-known-admission-2 : tie.Need-enum-known-admission-2
--- enum-known-admission-2 c = search rules
-
 pub complete_list-requires : goal.complete_list-requires
-complete_list-requires c = record { grouped = held-grouped (admitted c.before.before.before.before.before) (held c.before.before.before.before.before) (held-long c.before.before.before.before.before.before.before.before.before) (passed c.before.before.before.before.before).1; room = c.requires.room }
-
--- TODO no goal same-length
--- same_length : tie.Need-same-length
--- same_length c = search rules
+complete_list-requires c =
+    let p = (goal.at.complete_list-requires c).In-Members in
+    record { grouped = held-grouped (admitted p) (held p) (held-long (goal.at.complete_list-requires c).After-admit-admission) (passed p).1; room = c.requires.room }
 
 pub returns-in-Refused : goal.returns-in-Refused
-returns-in-Refused c = record { found = finds-refused (listing-unadmitted (sent c.before.before.before.before.before.before.before.before.before.before.before.before.before) (list_size c.before.before.before.before.before.before.before.before.before.before.before.before.before) (size c.before.before.before.before.before.before.before.before.before.before.before.before.before) _ _ (admission-refused _ _ (sym c.admission-1.given.1 ∙ came c.before.before.before.before.before.before))) }
-
--- TODO no goal same-length-2
--- same-length-2 : tie.Need-same-length-2
--- same-length-2 c = search rules
-
--- TODO no goal same-length-3
--- same-length-3 : tie.Need-same-length-3
--- same-length-3 c = search rules
-
--- TODO no goal same-length-4
--- same-length-4 : tie.Need-same-length-4
--- same-length-4 c = search rules
-
--- TODO no goal same-length-5
--- same-length-5 : tie.Need-same-length-5
--- same-length-5 c = search rules
+returns-in-Refused c =
+    let s = (goal.at.returns-in-Refused c).Start in
+    record { found = finds-refused (listing-unadmitted (sent s) (list_size s) (size s) _ _ (admission-refused _ _ (sym c.in-Refused.is ∙ came (goal.at.returns-in-Refused c).After-admit-admission))) }
 
 pub returns-in-Members : goal.returns-in-Members
-returns-in-Members c = record { found = finds-admitted (sent c.before.before.before.before.before.before.before.before.before.before.before.before.before.before.before.before.before.before.before.before.before.before) (list_size c.before.before.before.before.before.before.before.before.before.before.before.before.before.before.before.before.before.before.before.before.before.before) (size c.before.before.before.before.before.before.before.before.before.before.before.before.before.before.before.before.before.before.before.before.before.before) (held-long c.before.before.before.before.before.before.before.before.before.before.before.before.before.before.before) (held-table (admitted c.before.before.before.before.before.before.before.before.before.before.before) (held c.before.before.before.before.before.before.before.before.before.before.before) (held-long c.before.before.before.before.before.before.before.before.before.before.before.before.before.before.before) (passed c.before.before.before.before.before.before.before.before.before.before.before).1) (passed c.before.before.before.before.before.before.before.before.before.before.before).0 c.complete_list.ensures.found }
+returns-in-Members c =
+    let s = (goal.at.returns-in-Members c).Start in
+    let p = (goal.at.returns-in-Members c).After-admit-admission in
+    let q = (goal.at.returns-in-Members c).In-Members in
+    record { found = finds-admitted (sent s) (list_size s) (size s) (held-long p) (held-table (admitted q) (held q) (held-long p) (passed q).1) (passed q).0 c.complete_list.ensures.found }

@@ -10,19 +10,8 @@ use Rattle.definitions.specs.Calls.{Listing, Parts, SplitEnd, parts_of, split_en
 use Rattle.moves.specs.declared.Numbers.{Numbers}
 use Rattle.moves.specs.Found.{listing_in}
 use Rattle.moves.proofs.Splits.{Numbered, ends_same, ends-unlisted, listed, listed-held, listed_same, parts-sized, parts-unsized, refused-same, sized_same, split-promise, vector-sized}
-use borrow.Author.Rules.{rules}
 use Rattle.moves.proofs.split.Goals as goal
-use Rattle.moves.proofs.split.Goals.{Start}
-use Rattle.moves.proofs.split.Lts
-use Rattle.moves.proofs.split.Reads
-use Rattle.moves.proofs.split.Tie
-
--- what is known at the places that the lemmas below are about
-abbrev After-list-listed : Type 0
-After-list-listed = Lts.After-list Tie.the-claims Reads.Pre Reads.Post Tie.handed_clauses
-
-abbrev In-Moves-2 : Type 0
-In-Moves-2 = Lts.After-listed Tie.the-claims Reads.Pre Reads.Post Tie.handed_clauses
+use Rattle.moves.proofs.split.Goals.{After-list-listed, In-Moves, Start}
 
 -- the order that was sent, and the sizes of the areas
 module _ (s : Start) where
@@ -45,7 +34,7 @@ module _ (s : Start) where
 -- the areas that the List leaves
 module _ (c : After-list-listed) where
   abbrev start : Start
-  start = c.before.before.before.before.before.before.before.before.before.before.before
+  start = (goal.at.After-list-listed c).Start
 
   long : length c.list-listed.new.list ≡ list_size start
   long = c.list-listed.auto.list
@@ -56,88 +45,62 @@ module _ (c : After-list-listed) where
   -- 5 and 6 are not met
   passed : first_fault (cells_fault start.args.n ∷ split_size_fault start.args.n start.args.vector.now (pieces_size start) ∷ []) ≡ None
   passed =
-            sym c.split_sizes-fault.ensures.met ∙ c.enum_told-1.given.1
+      sym c.split_sizes-fault.ensures.met ∙ c.in_default.is
 
   -- the pieces area was cleared
   deep : length c.clear.new.area ≡ pieces_size start
   deep = c.clear.auto.area
 
 -- what the List found
-module _ (c : In-Moves-2) where
+module _ (c : In-Moves) where
   abbrev l : After-list-listed
-  l = c.before.before.before.before.before
+  l = (goal.at.In-Moves c).After-list-listed
 
   abbrev numbers : Numbers
-  numbers = record { rows = c.listed-1.given.0.0; members = c.listed-1.given.0.1.0; stored = c.listed-1.given.0.1.1.0; sums = c.listed-1.given.0.1.1.1.0 }
+  numbers = record { rows = c.in-Moves.rows; members = c.in-Moves.members; stored = c.in-Moves.stored; sums = c.in-Moves.sums }
 
   found : Numbered l.list-listed.ensures.kept (long l) (wide l) numbers
-  found = listed l.list-listed.ensures.kept (long l) (wide l) numbers c.listed-1.given.1
-
--- TODO no goal same-length
--- same_length : tie.Need-same-length
--- same_length c = search rules
-
--- TODO no goal same-length-2
--- same-length-2 : tie.Need-same-length-2
--- same-length-2 c = search rules
-
--- TODO no goal same-length-3
--- same-length-3 : tie.Need-same-length-3
--- same-length-3 c = search rules
+  found = listed l.list-listed.ensures.kept (long l) (wide l) numbers c.in-Moves.is
 
 pub returns-in-At : goal.returns-in-At
 returns-in-At c =
-    record { kept = split-promise (sent c.before.before.before.before.before.before.before.before.before.before.before.before.before.before.before) c.args.vector.now (list_size c.before.before.before.before.before.before.before.before.before.before.before.before.before.before.before) (group_size c.before.before.before.before.before.before.before.before.before.before.before.before.before.before.before) (pieces_size c.before.before.before.before.before.before.before.before.before.before.before.before.before.before.before)
-    (ends_same
-    (refused-same c.args.n (list_size c.before.before.before.before.before.before.before.before.before.before.before.before.before.before.before) (group_size c.before.before.before.before.before.before.before.before.before.before.before.before.before.before.before) (pieces_size c.before.before.before.before.before.before.before.before.before.before.before.before.before.before.before) _ _
-    ∙ ap (end_of c.before.before.before.before.before.before.before.before.before.before.before.before.before.before.before) (sym (parts-unsized (sent c.before.before.before.before.before.before.before.before.before.before.before.before.before.before.before) c.args.vector.now (list_size c.before.before.before.before.before.before.before.before.before.before.before.before.before.before.before) (group_size c.before.before.before.before.before.before.before.before.before.before.before.before.before.before.before) (pieces_size c.before.before.before.before.before.before.before.before.before.before.before.before.before.before.before) _ _ (sym c.split_sizes-fault.ensures.met ∙ c.fault-1.given.1))))
-    c.refuse_split.ensures.zeros)
-    c.refuse_split.auto.basis c.refuse_split.auto.group c.refuse_split.auto.pieces }
-
--- TODO no goal enum-told
--- enum_told : tie.Need-enum-told
--- enum_told c = search rules
-
--- TODO no goal same-length-4
--- same-length-4 : tie.Need-same-length-4
--- same-length-4 c = search rules
-
--- TODO no goal same-length-5
--- same-length-5 : tie.Need-same-length-5
--- same-length-5 c = search rules
-
--- TODO no goal same-length-6
--- same-length-6 : tie.Need-same-length-6
--- same-length-6 c = search rules
+    let s = (goal.at.returns-in-At c).Start in
+    record {
+      kept = split-promise (sent s) c.args.vector.now (list_size s) (group_size s) (pieces_size s)
+          (ends_same
+          (refused-same c.args.n (list_size s) (group_size s) (pieces_size s) _ _
+          ∙ ap (end_of s) (sym (parts-unsized (sent s) c.args.vector.now (list_size s) (group_size s) (pieces_size s) _ _ (sym c.split_sizes-fault.ensures.met ∙ c.in-At.is))))
+          c.refuse_split.ensures.zeros)
+          c.refuse_split.auto.basis c.refuse_split.auto.group c.refuse_split.auto.pieces;
+    }
 
 pub returns-in_default-listed : goal.returns-in_default-listed
 returns-in_default-listed c =
-    record { kept = split-promise (sent c.before.before.before.before.before.before.before.before.before.before.before.before.before.before.before.before) c.args.vector.now (list_size c.before.before.before.before.before.before.before.before.before.before.before.before.before.before.before.before) (group_size c.before.before.before.before.before.before.before.before.before.before.before.before.before.before.before.before) (pieces_size c.before.before.before.before.before.before.before.before.before.before.before.before.before.before.before.before)
-    (ends_same (ap (end_of c.before.before.before.before.before.before.before.before.before.before.before.before.before.before.before.before) (parts-sized (sent c.before.before.before.before.before.before.before.before.before.before.before.before.before.before.before.before) c.args.vector.now (list_size c.before.before.before.before.before.before.before.before.before.before.before.before.before.before.before.before) (group_size c.before.before.before.before.before.before.before.before.before.before.before.before.before.before.before.before) (pieces_size c.before.before.before.before.before.before.before.before.before.before.before.before.before.before.before.before) (passed c.before.before.before.before.before)))
-    (ends-unlisted (pieces_size c.before.before.before.before.before.before.before.before.before.before.before.before.before.before.before.before) c.args.vector.now c.list-listed.ensures.kept c.in_default-listed.keys2 c.clear.ensures.cleared))
-    (long c.before.before.before.before.before) (wide c.before.before.before.before.before) (deep c.before.before.before.before.before) }
+    let s = (goal.at.returns-in_default-listed c).Start in
+    let p = (goal.at.returns-in_default-listed c).After-list-listed in
+    record {
+      kept = split-promise (sent s) c.args.vector.now (list_size s) (group_size s) (pieces_size s)
+          (ends_same (ap (end_of s) (parts-sized (sent s) c.args.vector.now (list_size s) (group_size s) (pieces_size s) (passed p)))
+          (ends-unlisted (pieces_size s) c.args.vector.now c.list-listed.ensures.kept c.in_default-listed.not-Moves c.clear.ensures.cleared))
+          (long p) (wide p) (deep p);
+    }
 
 pub split_listed-requires : goal.split_listed-requires
-split_listed-requires c = record { held = listed-held c.list-listed.ensures.kept (long c.before.before.before.before.before.before.before.before.before.before) (wide c.before.before.before.before.before.before.before.before.before.before) (found c.before.before.before.before.before); sized = vector-sized c.args.n c.args.vector.now (pieces_size c.before.before.before.before.before.before.before.before.before.before.before.before.before.before.before.before.before.before.before.before.before) (passed c.before.before.before.before.before.before.before.before.before.before) }
-
--- TODO no goal same-length-7
--- same-length-7 : tie.Need-same-length-7
--- same-length-7 c = search rules
-
--- TODO no goal same-length-8
--- same-length-8 : tie.Need-same-length-8
--- same-length-8 c = search rules
-
--- TODO no goal same-length-9
--- same-length-9 : tie.Need-same-length-9
--- same-length-9 c = search rules
+split_listed-requires c =
+    let p = (goal.at.split_listed-requires c).After-list-listed in
+    record { held = listed-held c.list-listed.ensures.kept (long p) (wide p) (found (goal.at.split_listed-requires c).In-Moves); sized = vector-sized c.args.n c.args.vector.now (pieces_size (goal.at.split_listed-requires c).Start) (passed p) }
 
 pub returns : goal.returns
 returns c =
-    record { kept = split-promise (sent c.before.before.before.before.before.before.before.before.before.before.before.before.before.before.before.before.before.before.before.before.before.before.before.before.before.before) c.args.vector.now (list_size c.before.before.before.before.before.before.before.before.before.before.before.before.before.before.before.before.before.before.before.before.before.before.before.before.before.before) (group_size c.before.before.before.before.before.before.before.before.before.before.before.before.before.before.before.before.before.before.before.before.before.before.before.before.before.before) (pieces_size c.before.before.before.before.before.before.before.before.before.before.before.before.before.before.before.before.before.before.before.before.before.before.before.before.before.before)
-    (ends_same
-    (sized_same c.args.n (λ (size : ℕ). parts_of c.args.vector.now size (accepted (listing_in c.args.n (numbers c.before.before.before.before.before.before.before.before.before.before) c.list-listed.new.list c.list-listed.new.group))) (long c.before.before.before.before.before.before.before.before.before.before.before.before.before.before.before) (wide c.before.before.before.before.before.before.before.before.before.before.before.before.before.before.before) (deep c.before.before.before.before.before.before.before.before.before.before.before.before.before.before.before)
-    ∙ ap (λ (o : Outcome Listing). end_of c.before.before.before.before.before.before.before.before.before.before.before.before.before.before.before.before.before.before.before.before.before.before.before.before.before.before (parts_of c.args.vector.now (pieces_size c.before.before.before.before.before.before.before.before.before.before.before.before.before.before.before.before.before.before.before.before.before.before.before.before.before.before) o)) (listed_same c.list-listed.ensures.kept (long c.before.before.before.before.before.before.before.before.before.before.before.before.before.before.before) (wide c.before.before.before.before.before.before.before.before.before.before.before.before.before.before.before) (found c.before.before.before.before.before.before.before.before.before.before))
-    ∙ ap (end_of c.before.before.before.before.before.before.before.before.before.before.before.before.before.before.before.before.before.before.before.before.before.before.before.before.before.before) (parts-sized (sent c.before.before.before.before.before.before.before.before.before.before.before.before.before.before.before.before.before.before.before.before.before.before.before.before.before.before) c.args.vector.now (list_size c.before.before.before.before.before.before.before.before.before.before.before.before.before.before.before.before.before.before.before.before.before.before.before.before.before.before) (group_size c.before.before.before.before.before.before.before.before.before.before.before.before.before.before.before.before.before.before.before.before.before.before.before.before.before.before) (pieces_size c.before.before.before.before.before.before.before.before.before.before.before.before.before.before.before.before.before.before.before.before.before.before.before.before.before.before) (passed c.before.before.before.before.before.before.before.before.before.before.before.before.before.before.before)))
-    c.split_listed.ensures.ended)
-    (c.split_listed.auto.basis ∙ long c.before.before.before.before.before.before.before.before.before.before.before.before.before.before.before) (c.split_listed.auto.group ∙ wide c.before.before.before.before.before.before.before.before.before.before.before.before.before.before.before) (c.split_listed.auto.pieces ∙ deep c.before.before.before.before.before.before.before.before.before.before.before.before.before.before.before) }
+    let s = (goal.at.returns c).Start in
+    let p = (goal.at.returns c).In-Moves in
+    let q = (goal.at.returns c).After-list-listed in
+    record {
+      kept = split-promise (sent s) c.args.vector.now (list_size s) (group_size s) (pieces_size s)
+          (ends_same
+          (sized_same c.args.n (λ (size : ℕ). parts_of c.args.vector.now size (accepted (listing_in c.args.n (numbers p) c.list-listed.new.list c.list-listed.new.group))) (long q) (wide q) (deep q)
+          ∙ ap (λ (o : Outcome Listing). end_of s (parts_of c.args.vector.now (pieces_size s) o)) (listed_same c.list-listed.ensures.kept (long q) (wide q) (found p))
+          ∙ ap (end_of s) (parts-sized (sent s) c.args.vector.now (list_size s) (group_size s) (pieces_size s) (passed q)))
+          c.split_listed.ensures.ended)
+          (c.split_listed.auto.basis ∙ long q) (c.split_listed.auto.group ∙ wide q) (c.split_listed.auto.pieces ∙ deep q);
+    }

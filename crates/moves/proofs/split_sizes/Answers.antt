@@ -3,7 +3,6 @@ use mathlib.Core.Path.{◌∙◌, ap₂}
 use mathlib.Core.List.{[], ◌∷◌}
 use Rattle.definitions.specs.declared.Fault.{Fault}
 use Rattle.definitions.specs.Refusals.{first_fault}
-use borrow.Author.Rules.{rules}
 use Rattle.moves.proofs.split_sizes.Goals as goal
 
 pub returns : goal.returns

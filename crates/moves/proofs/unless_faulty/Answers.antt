@@ -6,7 +6,6 @@ use native.Mathlib.Omega.{arith}
 use Rattle.definitions.specs.Limits.{group_limit, list_limit}
 use Rattle.definitions.specs.Completion.{sum_count}
 use Rattle.moves.specs.Found.{checked_of}
-use borrow.Author.Rules.{rules}
 use Rattle.moves.proofs.unless_faulty.Goals as goal
 use Rattle.moves.proofs.unless_faulty.Goals.{Start}
 
@@ -20,19 +19,15 @@ module _ (s : Start) where
       let h : s.args.rows + 1 ≤ list_limit + 1 = omega (arith, s.requires.few.0) in
       mul-le-mul few h
 
--- TODO no goal enum-told
--- enum_told : tie.Need-enum-told
--- enum_told c = search rules
-
 pub overflow_mul-result : goal.overflow_mul-result
-overflow_mul-result c = omega (arith, few c.before.before)
+overflow_mul-result c = omega (arith, few (goal.at.overflow_mul-result c).Start)
 
 pub overflow_mul-result-in-None : goal.overflow_mul-result-in-None
-overflow_mul-result-in-None c = omega (arith, most c.before.before)
+overflow_mul-result-in-None c = omega (arith, most (goal.at.overflow_mul-result-in-None c).Start)
 
 pub returns-in-At : goal.returns-in-At
-returns-in-At c = record { told = sym (ap (checked_of c.args.rows c.args.g) c.fault-1.given.1) }
+returns-in-At c = record { told = sym (ap (checked_of c.args.rows c.args.g) c.in-At.is) }
 
 pub returns-in-None : goal.returns-in-None
 unfolding sum_count
-returns-in-None c = record { told = sym (ap (checked_of c.args.rows c.args.g) c.enum_told-1.given.1) }
+returns-in-None c = record { told = sym (ap (checked_of c.args.rows c.args.g) c.in-None.is) }

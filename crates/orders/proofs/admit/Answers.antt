@@ -5,7 +5,6 @@ use lib.ListN.{length}
 use borrow.Author.Tests.{lt-ltb, le-ltb}
 use Rattle.orders.specs.Grammar.{too_many}
 use Rattle.orders.specs.Scan.{admitted}
-use borrow.Author.Rules.{rules}
 use Rattle.orders.proofs.admit.Goals as goal
 
 pub returns-then-too_many : goal.returns-then-too_many

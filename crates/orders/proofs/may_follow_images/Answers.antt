@@ -1,5 +1,4 @@
 -- `may_follow_images` meets its contract. Assumes nothing.
-use borrow.Author.Rules.{rules}
 use Rattle.orders.proofs.may_follow_images.Goals as goal
 
 pub returns-then-due : goal.returns-then-due

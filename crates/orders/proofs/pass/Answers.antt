@@ -6,39 +6,10 @@ use lib.ListN.{length}
 use Rattle.commands.specs.declared.Command.{Command}
 use Rattle.commands.specs.Commands.{operands_of, width_of}
 use Rattle.orders.specs.Scan.{passed}
-use borrow.Author.Rules.{rules}
 use Rattle.orders.proofs.pass.Goals as goal
 
 pub pass_size-requires : goal.pass_size-requires
-pass_size-requires c = record { operand = omega (arith, subst (λ (x : Command). operands_of x + width_of x 0 0 ≤ length c.args.order.now) c.command-1.given.1 c.requires.operands) }
-
--- TODO no goal enum-known-command-2
--- enum-known-command-2 : tie.Need-enum-known-command-2
--- enum-known-command-2 c = search rules
-
--- TODO no goal enum-told
--- enum_told : tie.Need-enum-told
--- enum_told c = search rules
-
--- TODO no goal enum-told-2
--- enum-told-2 : tie.Need-enum-told-2
--- enum-told-2 c = search rules
-
--- TODO no goal enum-told-3
--- enum-told-3 : tie.Need-enum-told-3
--- enum-told-3 c = search rules
-
--- TODO no goal enum-told-4
--- enum-told-4 : tie.Need-enum-told-4
--- enum-told-4 c = search rules
-
--- TODO no goal enum-told-5
--- enum-told-5 : tie.Need-enum-told-5
--- enum-told-5 c = search rules
-
--- TODO no goal enum-told-6
--- enum-told-6 : tie.Need-enum-told-6
--- enum-told-6 c = search rules
+pass_size-requires c = record { operand = omega (arith, subst (λ (x : Command). operands_of x + width_of x 0 0 ≤ length c.args.order.now) c.in-Size.is c.requires.operands) }
 
 pub returns-in-Size : goal.returns-in-Size
 returns-in-Size c = record { passed = cc }

@@ -3,7 +3,6 @@ use native.Mathlib.Omega.{arith}
 use lib.ListN.{length}
 use borrow.Author.Tests.{lt-ltb, le-ltb}
 use Rattle.orders.specs.Scan.{passed}
-use borrow.Author.Rules.{rules}
 use Rattle.orders.proofs.pass_end.Goals as goal
 
 pub returns-then-p-order : goal.returns-then-p-order

@@ -7,7 +7,6 @@ use Rattle.commands.specs.Decode.{byte_at}
 use Rattle.orders.specs.declared.Step.TheVariants.{Next}
 use Rattle.orders.specs.Scan.{passed}
 use Rattle.orders.proofs.Parts.{part-whole}
-use borrow.Author.Rules.{rules}
 use Rattle.orders.proofs.pass_size.Goals as goal
 
 pub returns-then-n : goal.returns-then-n

@@ -1,5 +1,4 @@
 -- `past` meets its contract. Assumes nothing.
-use borrow.Author.Rules.{rules}
 use Rattle.orders.proofs.past.Goals as goal
 
 pub returns : goal.returns

@@ -1,16 +1,10 @@
 -- `less_multiple` meets its contract. The invariant: the cells up to `i` are those of the answer. Assumes nothing.
 use mathlib.Core.Path.{◌≡◌}
 use Prim.Native.Nat.{◌≤◌, ◌-◌}
-use native.Mathlib.Omega.{arith}
 use lib.IntN.{pos}
-use lib.ListN.{length}
-use lib.Seq.{paste, paste-zero}
+use lib.Seq.{paste}
 use Rattle.definitions.specs.Limits.{cells}
-use Rattle.definitions.specs.Vector.{Vector, minus, scale}
-use Rattle.theory.proofs.Vector.{length-minus}
-use Rattle.theory.proofs.Lattice.{length-scale}
-use Rattle.vectors.proofs.Kit.{fill, filled}
-use Rattle.pieces.proofs.Multiples.{small-fits, Turn, products-fit, rests-fit, rests-read}
+use Rattle.definitions.specs.Vector.{minus, scale}
 use Rattle.pieces.proofs.less_multiple.Given as goal
 
 abbrev pub invariant-loop-i : goal.invariant-loop-i

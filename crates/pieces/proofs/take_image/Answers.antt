@@ -1,24 +1,23 @@
 -- `take_image` meets its contract: the image is taken so often, or not at all. Assumes nothing.
 use mathlib.Core.Path.{refl}
 use native.Mathlib.Omega.{arith}
-use borrow.Author.Rules.{rules}
 use Rattle.pieces.proofs.Joining.{takes_none, takes-some}
 use Rattle.pieces.proofs.take_image.Goals as goal
 
 pub returns-then-count-eq0 : goal.returns-then-count-eq0
 returns-then-count-eq0 c =
-    record { taken = takes_none c.args.place c.args.positive c.args.image c.args.t c.most_below-count.result
-    c.most_below-count.ensures.most c.args.pieces.now c.if-count-eq0.true (omega arith) c.requires.ready.long }
+    record {
+      taken = takes_none c.args.place c.args.positive c.args.image c.args.t c.most_below-count.result
+          c.most_below-count.ensures.most c.args.pieces.now c.if-count-eq0.true (omega arith) c.requires.ready.long;
+    }
 
 pub less_multiple-less-requires : goal.less_multiple-less-requires
 less_multiple-less-requires c = record { lies = c.most_below-count.ensures.most.lies; few = c.most_below-count.ensures.most.few }
 
--- TODO no goal same-length
--- same_length : tie.Need-same-length
--- same_length c = search rules
-
 pub returns : goal.returns
 returns c =
-    record { taken = takes-some c.args.place c.args.positive c.args.image c.args.t c.most_below-count.result
-    c.most_below-count.ensures.most _ c.args.pieces.now c.write_piece.new.pieces c.if-count-eq0.false
-    c.less_multiple-less.ensures.rest refl c.write_piece.ensures.written }
+    record {
+      taken = takes-some c.args.place c.args.positive c.args.image c.args.t c.most_below-count.result
+          c.most_below-count.ensures.most _ c.args.pieces.now c.write_piece.new.pieces c.if-count-eq0.false
+          c.less_multiple-less.ensures.rest refl c.write_piece.ensures.written;
+    }

@@ -1,7 +1,6 @@
 -- `take_row` meets its contract. The invariant: the images at the positions up to `p` are taken. Assumes nothing.
 use mathlib.Core.Path.{◌≡◌, refl, ◌∙◌, subst}
 use mathlib.Core.List.{List, []}
-use Prim.Native.Nat.{◌≤◌, ◌<◌, ◌-◌}
 use native.Mathlib.Omega.{arith}
 use lib.ListN.{length, get_or, take}
 use lib.Seq.{take_all}
@@ -33,8 +32,12 @@ image_at-image-requires c = record { shaped = c.requires.shaped; position = c.lo
 
 pub take_both-next-requires : goal.take_both-next-requires
 take_both-next-requires c =
-    let p = c.loop-p.p in record { ready = ready-position c.args.row (sequences c.before.before.before.before.before.before.before) c.args.v p (omega (arith, counted c.before.before.before.before.before.before.before)) c.loop-p.invariant.1
-          (counted c.before.before.before.before.before.before.before) c.requires.ready; placed = record { row = c.requires.placed.0; position = omega (arith, c.loop-p-test.true, c.requires.placed.1) }; limited = rw c.image_at-image.ensures.image (image-within headroom (get_or (sequences c.before.before.before.before.before.before.before) p []) c.args.v c.requires.limited) }
+    let p = c.loop-p.p in record {
+      ready = ready-position c.args.row (sequences c.before.before.before.before.before.before.before) c.args.v p (omega (arith, counted c.before.before.before.before.before.before.before)) c.loop-p.invariant.1
+          (counted c.before.before.before.before.before.before.before) c.requires.ready;
+      placed = record { row = c.requires.placed.0; position = omega (arith, c.loop-p-test.true, c.requires.placed.1) };
+      limited = rw c.image_at-image.ensures.image (image-within headroom (get_or (sequences c.before.before.before.before.before.before.before) p []) c.args.v c.requires.limited);
+    }
 
 pub overflow_add-p : goal.overflow_add-p
 overflow_add-p c = omega arith
@@ -43,23 +46,20 @@ pub loop-p-smaller : goal.loop-p-smaller
 loop-p-smaller c = omega arith
 
 pub loop-p-preserved : goal.loop-p-preserved
-loop-p-preserved c =
-    (
-      omega arith,
-      takes-position c.args.row (sequences c.before.before.before.before.before.before.before.before.before) c.args.v c.loop-p.p (omega (arith, counted c.before.before.before.before.before.before.before.before.before)) c.loop-p.invariant.1
-          c.image_at-image.result c.image_at-image.ensures.image c.take_both-next.ensures.taken,
-      c.take_both-next.auto.pieces ∙ c.loop-p.invariant.2,
-    )
-
--- TODO no goal same-length
--- same_length : tie.Need-same-length invariant-loop decreases-loop
--- same_length c = c.before.before.loop.invariant.2
+loop-p-preserved c = (
+  omega arith,
+  takes-position c.args.row (sequences c.before.before.before.before.before.before.before.before.before) c.args.v c.loop-p.p (omega (arith, counted c.before.before.before.before.before.before.before.before.before)) c.loop-p.invariant.1
+      c.image_at-image.result c.image_at-image.ensures.image c.take_both-next.ensures.taken,
+  c.take_both-next.auto.pieces ∙ c.loop-p.invariant.2,
+)
 
 pub returns : goal.returns
 returns c =
-    let all : take c.loop-p.p (sequences c.before.before.before.before.before) ≡ sequences s =
-    take_all c.loop-p.p (sequences c.before.before.before.before.before) (omega (arith, counted c.before.before.before.before.before)) in record { taken = subst
-    (λ (l : List Exchange). Takes (placed_orbit c.args.row 0 l c.args.v) c.args.t c.args.pieces.now
-    c.loop-p.pieces c.loop-p.true)
-    all
-    c.loop-p.invariant.1 }
+    let all : take c.loop-p.p (sequences c.before.before.before.before.before) ≡ sequences c.before.before.before.before.before =
+    take_all c.loop-p.p (sequences c.before.before.before.before.before) (omega (arith, counted c.before.before.before.before.before)) in record {
+      taken = subst
+          (λ (l : List Exchange). Takes (placed_orbit c.args.row 0 l c.args.v) c.args.t c.args.pieces.now
+          c.loop-p.pieces c.loop-p.taken)
+          all
+          c.loop-p.invariant.1;
+    }

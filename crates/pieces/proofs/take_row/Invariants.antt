@@ -1,18 +1,10 @@
 -- `take_row` meets its contract. The invariant: the images at the positions up to `p` are taken. Assumes nothing.
-use mathlib.Core.Path.{◌≡◌, refl, ◌∙◌, subst}
-use mathlib.Core.List.{List, []}
-use Prim.Native.Nat.{◌≤◌, ◌<◌, ◌-◌}
-use native.Mathlib.Omega.{arith}
-use lib.ListN.{length, get_or, take}
-use lib.Seq.{take_all}
-use Rattle.definitions.specs.Group.{Exchange}
+use mathlib.Core.Path.{◌≡◌}
+use Prim.Native.Nat.{◌≤◌, ◌-◌}
+use lib.ListN.{length, take}
 use Rattle.definitions.specs.Split.{placed_orbit}
-use Rattle.vectors.specs.Bounds.{headroom}
 use Rattle.reduction.specs.Areas.{sequences_in}
-use Rattle.reduction.proofs.Lent.{image-within, sequences-count}
 use Rattle.pieces.specs.Taking.{Takes}
-use Rattle.pieces.proofs.Joining.{takes-nothing}
-use Rattle.pieces.proofs.Turns.{ready-position, takes-position}
 use Rattle.pieces.proofs.take_row.Given as goal
 
 abbrev pub invariant-loop-p : goal.invariant-loop-p

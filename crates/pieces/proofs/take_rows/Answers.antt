@@ -1,7 +1,7 @@
 -- `take_rows` meets its contract. The invariant: the images of the rows up to `i` are taken. Assumes nothing.
 use mathlib.Core.Path.{◌≡◌, refl, ◌∙◌, subst}
 use mathlib.Core.List.{List}
-use Prim.Native.Nat.{ℕ, ◌+◌, ◌*◌, ◌≤◌, ◌<◌, ◌-◌}
+use Prim.Native.Nat.{ℕ, ◌+◌, ◌*◌, ◌≤◌, ◌<◌}
 use native.Mathlib.Omega.{arith}
 use lib.ListN.{length, take}
 use lib.Seq.{take_all}
@@ -50,8 +50,13 @@ load-row-requires c = record { row = (c.requires.listed.is_table.narrow, inside 
 pub take_row-next-requires : goal.take_row-next-requires
 take_row-next-requires c =
     let i = c.loop-i.i in
-    let n = c.args.shape.n in record { shaped = c.requires.listed.is_table; ready = ready-row (sequences c.before.before.before.before.before.before) (rows c.before.before.before.before.before.before) i (omega (arith, counted c.before.before.before.before.before.before)) c.loop-i.invariant.1 (counted c.before.before.before.before.before.before) (members c.before.before.before.before.before.before)
-            c.requires.ready; placed = (omega (arith, c.loop-i-test.true, c.requires.listed.few_rows), c.requires.listed.few_members); limited = rw c.load-row.ensures.made (row_within headroom c.args.list.now (i * n) n c.requires.listed.area.limited) }
+    let n = c.args.shape.n in record {
+      shaped = c.requires.listed.is_table;
+      ready = ready-row (sequences c.before.before.before.before.before.before) (rows c.before.before.before.before.before.before) i (omega (arith, counted c.before.before.before.before.before.before)) c.loop-i.invariant.1 (counted c.before.before.before.before.before.before) (members c.before.before.before.before.before.before)
+          c.requires.ready;
+      placed = (omega (arith, c.loop-i-test.true, c.requires.listed.few_rows), c.requires.listed.few_members);
+      limited = rw c.load-row.ensures.made (row_within headroom c.args.list.now (i * n) n c.requires.listed.area.limited);
+    }
 
 pub overflow_add-i : goal.overflow_add-i
 overflow_add-i c = omega arith
@@ -70,14 +75,12 @@ loop-i-preserved c =
       c.take_row-next.auto.pieces ∙ c.loop-i.invariant.2,
     )
 
--- TODO no goal same-length
--- same_length : tie.Need-same-length invariant-loop decreases-loop
--- same_length c = c.before.loop.invariant.2
-
 pub returns : goal.returns
 returns c =
-    let all : take c.loop-i.i (rows c.before.before.before.before) ≡ rows s = take_all c.loop-i.i (rows c.before.before.before.before) (omega (arith, counted c.before.before.before.before)) in record { taken = subst
-    (λ (l : List Vector). Takes (placed_orbits 0 (sequences c.before.before.before.before) l) c.args.t c.args.pieces.now c.loop-i.pieces
-    c.loop-i.true)
-    all
-    c.loop-i.invariant.1 }
+    let all : take c.loop-i.i (rows c.before.before.before.before) ≡ rows c.before.before.before.before = take_all c.loop-i.i (rows c.before.before.before.before) (omega (arith, counted c.before.before.before.before)) in record {
+      taken = subst
+          (λ (l : List Vector). Takes (placed_orbits 0 (sequences c.before.before.before.before) l) c.args.t c.args.pieces.now c.loop-i.pieces
+          c.loop-i.taken)
+          all
+          c.loop-i.invariant.1;
+    }

@@ -4,7 +4,6 @@ use mathlib.Core.Bool.{Bool, true, false}
 use mathlib.Core.List.{[], ◌∷◌}
 use Prim.Native.Nat.{◌*◌}
 use native.Mathlib.Omega.{arith}
-use borrow.Author.Rules.{rules}
 use lib.IntN.{ℤ}
 use lib.Seq.{paste}
 use mir.Syntax.{w32}
@@ -22,10 +21,6 @@ unfolding sign
 sign_fits true = record { sfits = omega arith }
 sign_fits false = record { sfits = omega arith }
 
--- TODO no goal same-length
--- same_length : tie.Need-same-length
--- same_length c = search rules
-
 pub returns-then-k-pieces : goal.returns-then-k-pieces
 returns-then-k-pieces c =
     let area = c.args.pieces.now in
@@ -34,9 +29,11 @@ returns-then-k-pieces c =
     let count = to_z-of_z (small-fits {k = c.args.count} (omega arith)) in
     let sign-is =
     ap (λ (z : ℤ). to_z w32 (of_z w32 z)) c.sign.ensures.sign
-    ∙ to_z-of_z (sign_fits c.args.positive) in record { written = c.store.ensures.stored
-    ∙ (λ i. paste area (c.args.k * piece_width) (row i ∷ position i ∷ sign-is i ∷ count i ∷ []) piece_width)
-    ∙ with-room area c.args.k (four_numbers c.args.place c.args.positive c.args.count) (omega arith) }
+    ∙ to_z-of_z (sign_fits c.args.positive) in record {
+      written = c.store.ensures.stored
+          ∙ (λ i. paste area (c.args.k * piece_width) (row i ∷ position i ∷ sign-is i ∷ count i ∷ []) piece_width)
+          ∙ with-room area c.args.k (four_numbers c.args.place c.args.positive c.args.count) (omega arith);
+    }
 
 pub returns-else-k-pieces : goal.returns-else-k-pieces
 returns-else-k-pieces c = let a = c.args in record { written = without-room a.pieces.now a.k (four_numbers a.place a.positive a.count) (omega arith) }

@@ -1,10 +1,9 @@
 -- `count_steps` meets its contract. The invariant: the count, and that of the steps from `i` on, are the count of all.
 -- Assumes nothing.
 use mathlib.Core.Path.{◌≡◌, sym, ◌∙◌, ap}
-use mathlib.Core.Logic.{⊎_elim}
 use mathlib.Core.Bool.{Bool, cond}
 use mathlib.Core.List.{List, ◌∷◌}
-use Prim.Native.Nat.{ℕ, suc, ◌+◌, ◌-◌, ◌≤◌, ◌<◌}
+use Prim.Native.Nat.{ℕ, suc, ◌+◌, ◌<◌}
 use native.Mathlib.Numerals.{add-one}
 use native.Mathlib.Omega.{arith}
 use borrow.Author.Tests.{eq-eqb, ne_eqb}
@@ -13,6 +12,7 @@ use lib.ListN.{length, drop, get_or, drop_of_length-le}
 use lib.Seq.{drop-cons}
 use Rattle.definitions.specs.Session.{steps_of}
 use Rattle.session_orders.proofs.count_steps.Goals as goal
+use Rattle.session_orders.proofs.count_steps.Goals.{then-steps-i, else-steps-i}
 
 -- the steps from place i on, by the test of the byte there
 module _ (byte : ℕ) (steps : List ℕ) (i : ℕ) (inside : i < length steps) where
@@ -46,11 +46,12 @@ loop-i-preserved c =
     let byte = c.args.byte in
     let i = c.loop-i.i in
     let inside : i < length steps = omega arith in (
-      ⊎_elim (λ w. omega (arith, w.1)) (λ w. omega (arith, w.1)) c.if-steps-i.branch,
+      elim c.if-steps-i.branch [ then-steps-i w ↦ omega arith | else-steps-i w ↦ omega arith ],
       omega arith,
-      ⊎_elim (λ w. omega (arith, w.1, c.loop-i.invariant.2, steps-from byte steps i inside (eq-eqb _ _ w.0.taken)))
-          (λ w. omega (arith, w.1, c.loop-i.invariant.2, steps-from byte steps i inside (ne_eqb _ _ w.0.left)))
-          c.if-steps-i.branch,
+      elim c.if-steps-i.branch [
+        | then-steps-i w ↦ omega (arith, steps-from byte steps i inside (eq-eqb _ _ w.if-steps-i.true))
+        | else-steps-i w ↦ omega (arith, steps-from byte steps i inside (ne_eqb _ _ w.if-steps-i.false))
+      ],
     )
 
 pub returns : goal.returns

@@ -1,12 +1,9 @@
 -- `take_steps` meets its contract. The invariant: the steps that are left come to the end of all. The measure: their
 -- number. Assumes nothing.
-use mathlib.Core.Path.{◌≡◌, refl, ◌∙◌}
-use native.Mathlib.Omega.{arith}
-use borrow.Author.Rules.{rules}
+use mathlib.Core.Path.{◌≡◌}
 use lib.ListN.{length}
 use Rattle.session_orders.specs.Ends.{taken_in}
-use Rattle.session_orders.proofs.Turns.{Looped, looped-end, looped-finished, looped_is, looped-next}
-use Rattle.session_orders.proofs.Turns.{looped-stopped}
+use Rattle.session_orders.proofs.Turns.{Looped}
 use Rattle.session_orders.proofs.take_steps.Given as goal
 
 abbrev pub invariant-loop-left : goal.invariant-loop-left

@@ -1,11 +1,8 @@
 -- `build_table` meets its contract: a table is built where an order is left. Assumes nothing.
 use mathlib.Core.Path.{◌≡◌, sym, ◌∙◌, ap, ap₂, subst}
-use mathlib.Core.Bool.{not}
 use mathlib.Core.List.{[]}
 use Prim.Native.Nat.{ℕ, ◌*◌, ◌≤◌, ◌<◌}
 use native.Mathlib.Omega.{arith}
-use borrow.Author.Rules.{rules}
-use borrow.Author.Tests.{not-false}
 use lib.ListN.{length}
 use Rattle.definitions.specs.Limits.{group_limit}
 use Rattle.definitions.specs.Group.{group_table, identity}
@@ -51,7 +48,7 @@ some-members order size =
 -- an order is left
 module _ (c : Else-not-left) where
   fit : Exchangeable c.args.n c.args.exchanges.now
-  fit = c.requires.valid (not-false _ (ap not c.if-not-left.false))
+  fit = c.requires.valid c.if-not-left.false
 
 -- what is built, by the definition's limit
 module _ (c : After-group_table-built) where
@@ -76,47 +73,42 @@ module _ (c : After-group_table-built) where
       ∙ ap₂ (λ (x : Built) (l : ℕ). area_of (size start) x (group_table start.args.n (exchanges_of (sent start)) l)) e limit_is
 
 pub returns-then-not-left : goal.returns-then-not-left
-returns-then-not-left c e = record { built = clash (ap not c.if-not-left.true) (ap not e) }
+returns-then-not-left c = record { built = λ e. clash e c.if-not-left.true }
 
 pub rows_up_to-limit-requires : goal.rows_up_to-limit-requires
 rows_up_to-limit-requires c = record { some = (fit c.before).some }
 
 pub group_table-built-requires : goal.group_table-built-requires
 group_table-built-requires c =
-    let d = fit c.before.before.before in record { areas = record {
+    let d = fit c.before.before.before in record {
+      areas = record {
         some = d.some;
         most = d.narrow;
         few = omega (arith, c.rows_up_to-limit.ensures.counted);
         room = subst (λ (l : ℕ). l * c.args.n ≤ size c.before.before.before.before.before.before) (sym c.rows_up_to-limit.ensures.counted) (rows_inside group_limit c.args.n (size c.before.before.before.before.before.before));
-      }; valid = d.valid }
-
--- TODO no goal enum-told
--- enum_told : tie.Need-enum-told
--- enum_told c = search rules
-
--- TODO no goal same-length
--- same_length : tie.Need-same-length
--- same_length c = search rules
+      };
+      valid = d.valid;
+    }
 
 pub returns-in-TooLarge : goal.returns-in-TooLarge
-returns-in-TooLarge c e =
-    record { built = record {
-      large = λ h. built-large _ _ (sym (built-is c.before.before.before.before.before) ∙ c.enum_told-1.given.1);
-      few = λ h. absurd (omega (arith, h));
-      counted = λ h. absurd (omega (arith, h));
-      held = λ h. absurd (omega (arith, h));
-    } }
-
--- TODO no goal same-length-2
--- same-length-2 : tie.Need-same-length-2
--- same-length-2 c = search rules
+returns-in-TooLarge c =
+    record {
+      built = λ e. record {
+        large = λ h. built-large _ _ (sym (built-is c.before.before.before.before) ∙ c.in-TooLarge.is);
+        few = λ h. absurd (omega (arith, h));
+        counted = λ h. absurd (omega (arith, h));
+        held = λ h. absurd (omega (arith, h));
+      };
+    }
 
 pub returns-in-Members : goal.returns-in-Members
 unfolding area_of
-returns-in-Members c e =
-    let m = built-members _ _ _ (sym (built-is c.before.before.before.before.before.before) ∙ c.built-1.given.1) in record { built = record {
-      large = λ h. absurd (omega (arith, h, m.0, some-members (sent c.before.before.before.before.before.before.before.before.before.before.before.before) (size c.before.before.before.before.before.before.before.before.before.before.before.before)));
-      few = λ h. omega (arith, m.0, m.1);
-      counted = λ h. m.0;
-      held = λ h. area-is c.before.before.before.before.before.before _ c.built-1.given.1;
-    } }
+returns-in-Members c =
+    let m = built-members _ _ _ (sym (built-is c.before.before.before.before) ∙ c.in-Members.is) in record {
+      built = λ e. record {
+        large = λ h. absurd (omega (arith, h, m.0, some-members (sent c.before.before.before.before.before.before.before.before.before.before) (size c.before.before.before.before.before.before.before.before.before.before)));
+        few = λ h. omega (arith, m.0, m.1);
+        counted = λ h. m.0;
+        held = λ h. area-is c.before.before.before.before _ c.in-Members.is;
+      };
+    }

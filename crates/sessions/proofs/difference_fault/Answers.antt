@@ -1,9 +1,6 @@
 -- `difference_fault` meets its contract. The invariant: what is left has the first difference of all. Assumes nothing.
-use mathlib.Core.Path.{◌≡◌, refl, sym, ◌∙◌}
-use Prim.Native.Nat.{◌≤◌, ◌-◌}
+use mathlib.Core.Path.{refl, sym, ◌∙◌}
 use native.Mathlib.Omega.{arith}
-use lib.ListN.{length, drop}
-use Rattle.definitions.specs.Session.{difference_from}
 use Rattle.sessions.proofs.Differences.{differ-short, differ-long, differ-end, differ-here, differ-next}
 use Rattle.sessions.proofs.difference_fault.Goals as goal
 

@@ -3,7 +3,6 @@ use mathlib.Core.Path.{◌≡◌, sym, ◌∙◌, ap₂}
 use mathlib.Core.Bool.{Bool, true, false}
 use mathlib.Core.List.{[], ◌∷◌}
 use Prim.Native.Nat.{ℕ}
-use borrow.Author.Rules.{rules}
 use borrow.Author.Tests.{eq-eqb, ne_eqb}
 use lib.Dec.{eqb}
 use Rattle.definitions.specs.declared.Fault.{Fault}
@@ -27,20 +26,18 @@ late-past members None e z = sym (ap₂ (λ (f : Fault) (b : Bool). first_fault 
 late-past members (At number place) e z =
     sym (ap₂ (λ (f : Fault) (b : Bool). first_fault (f ∷ fault_if 10 b ∷ At number place ∷ [])) e z)
 
--- TODO no goal enum-told
--- enum_told : tie.Need-enum-told
--- enum_told c = search rules
-
 pub returns-then-members-eq0 : goal.returns-then-members-eq0
-returns-then-members-eq0 c = record { met = late-ten c.args.members _ c.enum_told-1.given.1 (eq-eqb c.args.members 0 c.if-members-eq0.true) }
+returns-then-members-eq0 c = record { met = late-ten c.args.members _ c.in-None.is (eq-eqb c.args.members 0 c.if-members-eq0.true) }
 
 pub lattice_fault-requires : goal.lattice_fault-requires
-lattice_fault-requires c = record { numbered = c.requires.numbered c.enum_told-1.given.1 }
+lattice_fault-requires c = record { numbered = c.requires.numbered c.in-None.is }
 
 pub returns-in-At : goal.returns-in-At
-returns-in-At c = record { met = met-first _ _ _ c.early-1.given.1 }
+returns-in-At c = record { met = met-first _ _ _ c.in-At.is }
 
 pub returns-else-members-eq0 : goal.returns-else-members-eq0
 returns-else-members-eq0 c =
-    record { met = c.lattice_fault.ensures.met
-    ∙ late-past c.args.members _ c.enum_told-1.given.1 (ne_eqb c.args.members 0 c.if-members-eq0.false) }
+    record {
+      met = c.lattice_fault.ensures.met
+          ∙ late-past c.args.members _ c.in-None.is (ne_eqb c.args.members 0 c.if-members-eq0.false);
+    }

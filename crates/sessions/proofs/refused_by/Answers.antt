@@ -2,7 +2,6 @@
 use mathlib.Core.Path.{◌≡◌, sym, ◌∙◌}
 use Prim.Native.Nat.{ℕ}
 use native.Mathlib.Omega.{arith}
-use borrow.Author.Rules.{rules}
 use Rattle.definitions.specs.declared.Ending.TheVariants.{Refused}
 use Rattle.definitions.specs.declared.Fault.{Fault}
 use Rattle.definitions.specs.declared.Fault.TheVariants.{None, At}
@@ -14,12 +13,8 @@ same e f = let z = sym e ∙ f in cc
 never : {X : Type 0} {fault : Fault} {number place : ℕ} → fault ≡ None → fault ≡ At number place → X
 never e f = let z = sym e ∙ f in let y : ◌≡◌ {A = ℕ} 0 1 = cc in absurd (omega (arith, y))
 
--- TODO no goal enum-told
--- enum_told : tie.Need-enum-told
--- enum_told c = search rules
-
 pub returns-in-At : goal.returns-in-At
-returns-in-At c number place e = record { refused = same c.fault-1.given.1 e }
+returns-in-At c = record { refused = λ number place e. same c.in-At.is e }
 
 pub returns-in-None : goal.returns-in-None
-returns-in-None c number place e = record { refused = never c.enum_told-1.given.1 e }
+returns-in-None c = record { refused = λ number place e. never c.in-None.is e }

@@ -3,7 +3,6 @@ use mathlib.Core.Path.{◌≡◌, sym, ◌∙◌, ap, ap₂}
 use mathlib.Core.List.{◌++◌}
 use Prim.Native.Nat.{ℕ, ◌+◌, ◌*◌}
 use native.Mathlib.Omega.{arith}
-use borrow.Author.Rules.{rules}
 use lib.ListN.{length}
 use Rattle.definitions.specs.Session.{ending_of, half, half_of}
 use Rattle.sessions.specs.Found.{result_by, shape_of}
@@ -51,17 +50,15 @@ pub run_order-second-requires : goal.run_order-second-requires
 unfolding half
 run_order-second-requires c = record { grouped = c.requires.second; sized = back_long (numbers c.before.before.before.before.before.before.before.before.before) c.args.list.now (long c.before.before.before.before.before.before.before.before.before) c.run_order-first.new.list (front c.before.before.before.before) }
 
--- TODO no goal same-length
--- same_length : tie.Need-same-length
--- same_length c = search rules
-
 pub returns : goal.returns
 returns c =
     let first = result_by (shape_of c.args.n c.args.tests) c.args.table.now c.args.tests.first c.args.generators0.now in
-    let second = result_by (shape_of c.args.n c.args.tests) c.args.table.now c.args.tests.second c.args.generators1.now in record { ended = record {
-      first_answers = c.run_order-first.ensures.ended.answer ∙ ap (λ (k : ℕ). ending_of (first k)) c.count_steps.ensures.counted;
-      second_answers = c.run_order-second.ensures.ended.answer ∙ ap (λ (k : ℕ). ending_of (second k)) c.count_steps-2.ensures.counted;
-      holds = both_halves (numbers c.before.before.before.before.before.before.before.before.before.before.before) c.args.list.now (long c.before.before.before.before.before.before.before.before.before.before.before) c.run_order-first.new.list (front c.before.before.before.before.before.before) c.run_order-second.new.list
-          ∙ ap₂ ◌++◌ (c.run_order-first.ensures.ended.holds ∙ ap (λ (k : ℕ). half_of c.args.n (first k)) c.count_steps.ensures.counted)
-          (c.run_order-second.ensures.ended.holds ∙ ap (λ (k : ℕ). half_of c.args.n (second k)) c.count_steps-2.ensures.counted);
-    } }
+    let second = result_by (shape_of c.args.n c.args.tests) c.args.table.now c.args.tests.second c.args.generators1.now in record {
+      ended = record {
+        first_answers = c.run_order-first.ensures.ended.answer ∙ ap (λ (k : ℕ). ending_of (first k)) c.count_steps.ensures.counted;
+        second_answers = c.run_order-second.ensures.ended.answer ∙ ap (λ (k : ℕ). ending_of (second k)) c.count_steps-2.ensures.counted;
+        holds = both_halves (numbers c.before.before.before.before.before.before.before.before.before.before.before) c.args.list.now (long c.before.before.before.before.before.before.before.before.before.before.before) c.run_order-first.new.list (front c.before.before.before.before.before.before) c.run_order-second.new.list
+            ∙ ap₂ ◌++◌ (c.run_order-first.ensures.ended.holds ∙ ap (λ (k : ℕ). half_of c.args.n (first k)) c.count_steps.ensures.counted)
+            (c.run_order-second.ensures.ended.holds ∙ ap (λ (k : ℕ). half_of c.args.n (second k)) c.count_steps-2.ensures.counted);
+      };
+    }

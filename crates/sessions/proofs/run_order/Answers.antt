@@ -2,7 +2,6 @@
 use mathlib.Core.Path.{◌≡◌, refl, sym, ◌∙◌, ap}
 use mathlib.Core.List.{List, []}
 use Prim.Native.Nat.{ℕ}
-use borrow.Author.Rules.{rules}
 use lib.IntN.{ℤ, pos}
 use lib.ListN.{length}
 use Rattle.definitions.specs.declared.Ending.TheVariants.{Refused}
@@ -44,23 +43,11 @@ unmet-result table c count e = sym (ap (λ (f : Fault). result_of table (steps t
 ends_same : {n : ℕ} {a b : Result} {list : List ℤ} {r : _} → a ≡ b → OrderEnds n a list r → OrderEnds n b list r
 ends_same {n} e E = record { answer = E.answer ∙ ap ending_of e; holds = E.holds ∙ ap (half_of n) e }
 
--- TODO no goal enum-told
--- enum_told : tie.Need-enum-told
--- enum_told c = search rules
-
 pub complete_order-requires : goal.complete_order-requires
-complete_order-requires c = record { grouped = c.requires.grouped c.enum_told-1.given.1; sized = c.requires.sized }
-
--- TODO no goal same-length
--- same_length : tie.Need-same-length
--- same_length c = search rules
+complete_order-requires c = record { grouped = c.requires.grouped c.in-None.is; sized = c.requires.sized }
 
 pub returns-in-At : goal.returns-in-At
-returns-in-At c = record { ended = ends-met c.args.list.now (met-result _ _ c.args.count c.fault-1.given.1) c.requires.sized c.clear.ensures.cleared }
-
--- TODO no goal same-length-2
--- same-length-2 : tie.Need-same-length-2
--- same-length-2 c = search rules
+returns-in-At c = record { ended = ends-met c.args.list.now (met-result _ _ c.args.count c.in-At.is) c.requires.sized c.clear.ensures.cleared }
 
 pub returns-in-None : goal.returns-in-None
-returns-in-None c = record { ended = ends_same (unmet-result _ _ c.args.count c.enum_told-1.given.1) c.complete_order.ensures.ended }
+returns-in-None c = record { ended = ends_same (unmet-result _ _ c.args.count c.in-None.is) c.complete_order.ensures.ended }

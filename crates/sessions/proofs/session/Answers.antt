@@ -3,8 +3,6 @@ use mathlib.Core.Path.{◌≡◌, sym, ◌∙◌, ap, ap₂}
 use mathlib.Core.Bool.{true, ◌&&◌}
 use mathlib.Core.List.{List, []}
 use Prim.Native.Nat.{ℕ}
-use borrow.Author.Rules.{rules}
-use borrow.Author.Tests.{not-false, not-true}
 use lib.ListN.{length}
 use Rattle.definitions.specs.Lent.{Order, filled, order_of}
 use Rattle.sessions.specs.Found.{Finds, any_left}
@@ -61,40 +59,26 @@ module _ (c : After-is_left) where
   found = tested.test_both-tests.ensures.found
 
   long : length group ≡ group_size start
-  long = tested.test_both-tests.kept.1.1.1.1.1.1.1.1.1.0
+  long = tested.test_both-tests.auto.group
 
 -- an order is left
 left : (c : Else-not-is_left) → any_left c.test_both-tests.result.first c.test_both-tests.result.second ≡ true
-left c = sym c.is_left.ensures.told ∙ not-false _ (ap not c.if-not-is_left.false)
-
--- TODO no goal same-length
--- same_length : tie.Need-same-length
--- same_length c = search rules
-
--- TODO no goal same-length-2
--- same-length-2 : tie.Need-same-length-2
--- same-length-2 c = search rules
+left c = sym c.is_left.ensures.told ∙ c.if-not-is_left.false
 
 pub returns-then-not-is_left : goal.returns-then-not-is_left
 returns-then-not-is_left c =
     let F = found c.before.before.before.before.before.before.before.before.before.before.before in
-    let none = left-none _ _ (sym c.is_left.ensures.told ∙ not-true _ (ap not c.if-not-is_left.true)) in
+    let none = left-none _ _ (sym c.is_left.ensures.told ∙ c.if-not-is_left.true) in
     let e = none.4 in
-    let f = none.5 in record { kept = promise-shut (sent₀ c.before.before.before.before.before.before.before.before.before.before.before.before.before.before.before.before.before.before.before.before) (sent₁ c.before.before.before.before.before.before.before.before.before.before.before.before.before.before.before.before.before.before.before.before) (list_size c.before.before.before.before.before.before.before.before.before.before.before.before.before.before.before.before.before.before.before.before) (group_size c.before.before.before.before.before.before.before.before.before.before.before.before.before.before.before.before.before.before.before.before) c.args.steps.now (sym F.first_met ∙ e) (sym F.second_met ∙ f)
-    (c.refused_by.ensures.refused _ _ e) (c.refused_by-then-not-is_left.ensures.refused _ _ f)
-    c.clear.ensures.cleared
-    (c.clear_bytes.ensures.cleared ∙ ap (λ (k : ℕ). filled 0 k []) (long c.before.before.before.before.before.before.before.before.before.before.before)) }
+    let f = none.5 in record {
+      kept = promise-shut (sent₀ c.before.before.before.before.before.before.before.before.before.before.before.before.before.before.before.before.before.before.before.before) (sent₁ c.before.before.before.before.before.before.before.before.before.before.before.before.before.before.before.before.before.before.before.before) (list_size c.before.before.before.before.before.before.before.before.before.before.before.before.before.before.before.before.before.before.before.before) (group_size c.before.before.before.before.before.before.before.before.before.before.before.before.before.before.before.before.before.before.before.before) c.args.steps.now (sym F.first_met ∙ e) (sym F.second_met ∙ f)
+          (c.refused_by.ensures.refused _ _ e) (c.refused_by-then-not-is_left.ensures.refused _ _ f)
+          c.clear.ensures.cleared
+          (c.clear_bytes.ensures.cleared ∙ ap (λ (k : ℕ). filled 0 k []) (long c.before.before.before.before.before.before.before.before.before.before.before));
+    }
 
 pub run_both-answer-requires : goal.run_both-answer-requires
 run_both-answer-requires c = let F = found c.before.before.before in record { narrow = left-narrow (sent₀ c.before.before.before.before.before.before.before.before.before.before.before.before) (sent₁ c.before.before.before.before.before.before.before.before.before.before.before.before) (list_size c.before.before.before.before.before.before.before.before.before.before.before.before) (group_size c.before.before.before.before.before.before.before.before.before.before.before.before) c.args.steps.now F (left c.before.before) (long c.before.before.before); sized = left-size (sent₀ c.before.before.before.before.before.before.before.before.before.before.before.before) (sent₁ c.before.before.before.before.before.before.before.before.before.before.before.before) (list_size c.before.before.before.before.before.before.before.before.before.before.before.before) (group_size c.before.before.before.before.before.before.before.before.before.before.before.before) c.args.steps.now F (left c.before.before) (long c.before.before.before); first = first-grouped (sent₀ c.before.before.before.before.before.before.before.before.before.before.before.before) (sent₁ c.before.before.before.before.before.before.before.before.before.before.before.before) (list_size c.before.before.before.before.before.before.before.before.before.before.before.before) (group_size c.before.before.before.before.before.before.before.before.before.before.before.before) c.args.steps.now F (left c.before.before) (long c.before.before.before); second = second-grouped (sent₀ c.before.before.before.before.before.before.before.before.before.before.before.before) (sent₁ c.before.before.before.before.before.before.before.before.before.before.before.before) (list_size c.before.before.before.before.before.before.before.before.before.before.before.before) (group_size c.before.before.before.before.before.before.before.before.before.before.before.before) c.args.steps.now F (left c.before.before) (long c.before.before.before) }
-
--- TODO no goal same-length-3
--- same-length-3 : tie.Need-same-length-3
--- same-length-3 c = search rules
-
--- TODO no goal same-length-4
--- same-length-4 : tie.Need-same-length-4
--- same-length-4 c = search rules
 
 -- both orders have run
 module _ (c : After-is_refused-2) where
@@ -106,21 +90,17 @@ module _ (c : After-is_refused-2) where
 
 pub returns-then-is_refused : goal.returns-then-is_refused
 returns-then-is_refused c =
-    record { kept = promise-refused (sent₀ c.before.before.before.before.before.before.before.before.before.before.before.before.before.before.before.before.before.before.before.before.before) (sent₁ c.before.before.before.before.before.before.before.before.before.before.before.before.before.before.before.before.before.before.before.before.before) (list_size c.before.before.before.before.before.before.before.before.before.before.before.before.before.before.before.before.before.before.before.before.before) (group_size c.before.before.before.before.before.before.before.before.before.before.before.before.before.before.before.before.before.before.before.before.before) c.args.steps.now (found c.before.before.before.before.before.before.before.before.before.before.before.before) (left c.before.before.before.before.before.before.before.before.before.before.before) (long c.before.before.before.before.before.before.before.before.before.before.before.before)
-    c.run_both-answer.ensures.ended
-    (sym (ap₂ ◌&&◌ c.is_refused.ensures.told c.is_refused-2.ensures.told) ∙ c.if-is_refused.true)
-    (c.clear_bytes-then-is_refused.ensures.cleared ∙ ap (λ (k : ℕ). filled 0 k []) (long c.before.before.before.before.before.before.before.before.before.before.before.before)) }
-
--- TODO no goal same-length-5
--- same-length-5 : tie.Need-same-length-5
--- same-length-5 c = search rules
-
--- TODO no goal same-length-6
--- same-length-6 : tie.Need-same-length-6
--- same-length-6 c = search rules
+    record {
+      kept = promise-refused (sent₀ c.before.before.before.before.before.before.before.before.before.before.before.before.before.before.before.before.before.before.before.before.before) (sent₁ c.before.before.before.before.before.before.before.before.before.before.before.before.before.before.before.before.before.before.before.before.before) (list_size c.before.before.before.before.before.before.before.before.before.before.before.before.before.before.before.before.before.before.before.before.before) (group_size c.before.before.before.before.before.before.before.before.before.before.before.before.before.before.before.before.before.before.before.before.before) c.args.steps.now (found c.before.before.before.before.before.before.before.before.before.before.before.before) (left c.before.before.before.before.before.before.before.before.before.before.before) (long c.before.before.before.before.before.before.before.before.before.before.before.before)
+          c.run_both-answer.ensures.ended
+          (sym (ap₂ ◌&&◌ c.is_refused.ensures.told c.is_refused-2.ensures.told) ∙ c.if-is_refused.true)
+          (c.clear_bytes-then-is_refused.ensures.cleared ∙ ap (λ (k : ℕ). filled 0 k []) (long c.before.before.before.before.before.before.before.before.before.before.before.before));
+    }
 
 pub returns : goal.returns
 returns c =
-    record { kept = promise-left (sent₀ c.before.before.before.before.before.before.before.before.before.before.before.before.before.before.before.before.before) (sent₁ c.before.before.before.before.before.before.before.before.before.before.before.before.before.before.before.before.before) (list_size c.before.before.before.before.before.before.before.before.before.before.before.before.before.before.before.before.before) (group_size c.before.before.before.before.before.before.before.before.before.before.before.before.before.before.before.before.before) c.args.steps.now (found c.before.before.before.before.before.before.before.before) (left c.before.before.before.before.before.before.before) (long c.before.before.before.before.before.before.before.before)
-    c.run_both-answer.ensures.ended
-    (sym (ap₂ ◌&&◌ c.is_refused.ensures.told c.is_refused-2.ensures.told) ∙ c.if-is_refused.false) }
+    record {
+      kept = promise-left (sent₀ c.before.before.before.before.before.before.before.before.before.before.before.before.before.before.before.before.before) (sent₁ c.before.before.before.before.before.before.before.before.before.before.before.before.before.before.before.before.before) (list_size c.before.before.before.before.before.before.before.before.before.before.before.before.before.before.before.before.before) (group_size c.before.before.before.before.before.before.before.before.before.before.before.before.before.before.before.before.before) c.args.steps.now (found c.before.before.before.before.before.before.before.before) (left c.before.before.before.before.before.before.before) (long c.before.before.before.before.before.before.before.before)
+          c.run_both-answer.ensures.ended
+          (sym (ap₂ ◌&&◌ c.is_refused.ensures.told c.is_refused-2.ensures.told) ∙ c.if-is_refused.false);
+    }

@@ -2,7 +2,6 @@
 use mathlib.Core.Path.{◌≡◌, sym, ◌∙◌, ap, ap₂}
 use mathlib.Core.List.{[], ◌∷◌}
 use Prim.Native.Nat.{ℕ}
-use borrow.Author.Rules.{rules}
 use lib.ListN.{length}
 use Rattle.definitions.specs.declared.Fault.{Fault}
 use Rattle.definitions.specs.Lent.{Order, order_of}
@@ -59,24 +58,24 @@ module _ (c : After-early_fault-second) where
       (shared-is ∙ shared_same (sent₀ start) (sent₁ start) start.args.list)
 
 pub build_table-members-requires : goal.build_table-members-requires
-build_table-members-requires c e =
-    record { valid = left-exchangeable (sent₀ c.before.before.before.before.before.before.before.before.before) (sent₁ c.before.before.before.before.before.before.before.before.before) c.args.list (size c.before.before.before.before.before.before.before.before.before)
-    (sym (ap₂ any_left (early-first c.before.before.before) (early-second c.before.before.before)) ∙ sym c.is_left.ensures.told ∙ e) }
+build_table-members-requires c =
+    record {
+      valid = λ e. left-exchangeable (sent₀ c.before.before.before.before.before.before.before.before.before) (sent₁ c.before.before.before.before.before.before.before.before.before) c.args.list (size c.before.before.before.before.before.before.before.before.before)
+          (sym (ap₂ any_left (early-first c.before.before.before) (early-second c.before.before.before)) ∙ sym c.is_left.ensures.told ∙ e);
+    }
 
 pub late_fault-requires : goal.late_fault-requires
-late_fault-requires c e = record { numbered = early-numbered (sent₀ c.before.before.before.before.before.before.before.before.before.before.before.before) (sent₁ c.before.before.before.before.before.before.before.before.before.before.before.before) c.args.list (size c.before.before.before.before.before.before.before.before.before.before.before.before) (sym (early-first c.before.before.before.before.before.before) ∙ e) }
+late_fault-requires c = record { numbered = λ e. early-numbered (sent₀ c.before.before.before.before.before.before.before.before.before.before.before.before) (sent₁ c.before.before.before.before.before.before.before.before.before.before.before.before) c.args.list (size c.before.before.before.before.before.before.before.before.before.before.before.before) (sym (early-first c.before.before.before.before.before.before) ∙ e) }
 
 pub late_fault-requires-2 : goal.late_fault-requires-2
-late_fault-requires-2 c e = record { numbered = early-numbered (sent₁ c.before.before.before.before.before.before.before.before.before.before.before.before.before) (sent₀ c.before.before.before.before.before.before.before.before.before.before.before.before.before) c.args.list (size c.before.before.before.before.before.before.before.before.before.before.before.before.before) (sym (early-second c.before.before.before.before.before.before.before) ∙ e) }
-
--- TODO no goal same-length
--- same_length : tie.Need-same-length
--- same_length c = search rules
+late_fault-requires-2 c = record { numbered = λ e. early-numbered (sent₁ c.before.before.before.before.before.before.before.before.before.before.before.before.before) (sent₀ c.before.before.before.before.before.before.before.before.before.before.before.before.before) c.args.list (size c.before.before.before.before.before.before.before.before.before.before.before.before.before) (sym (early-second c.before.before.before.before.before.before.before) ∙ e) }
 
 pub returns : goal.returns
 returns c =
-    record { found = found-both (sent₀ c.before.before.before.before.before.before.before.before.before.before.before.before.before.before) (sent₁ c.before.before.before.before.before.before.before.before.before.before.before.before.before.before) c.args.list (size c.before.before.before.before.before.before.before.before.before.before.before.before.before.before) _ _
-    (c.late_fault.ensures.met ∙ ap (λ (x : Fault). late_fault x c.build_table-members.result (lattice_fault (sent₀ c.before.before.before.before.before.before.before.before.before.before.before.before.before.before))) (early-first c.before.before.before.before.before.before.before.before))
-    (c.late_fault-2.ensures.met ∙ ap (λ (x : Fault). late_fault x c.build_table-members.result (lattice_fault (sent₁ c.before.before.before.before.before.before.before.before.before.before.before.before.before.before))) (early-second c.before.before.before.before.before.before.before.before))
-    (λ h. tabled-order c.args.n0 c.args.generators0.now c.args.exchanges0.now c.args.images0.now
-    (c.build_table-members.ensures.built (c.is_left.ensures.told ∙ ap₂ any_left (early-first c.before.before.before.before.before.before.before.before) (early-second c.before.before.before.before.before.before.before.before) ∙ h))) }
+    record {
+      found = found-both (sent₀ c.before.before.before.before.before.before.before.before.before.before.before.before.before.before) (sent₁ c.before.before.before.before.before.before.before.before.before.before.before.before.before.before) c.args.list (size c.before.before.before.before.before.before.before.before.before.before.before.before.before.before) _ _
+          (c.late_fault.ensures.met ∙ ap (λ (x : Fault). late_fault x c.build_table-members.result (lattice_fault (sent₀ c.before.before.before.before.before.before.before.before.before.before.before.before.before.before))) (early-first c.before.before.before.before.before.before.before.before))
+          (c.late_fault-2.ensures.met ∙ ap (λ (x : Fault). late_fault x c.build_table-members.result (lattice_fault (sent₁ c.before.before.before.before.before.before.before.before.before.before.before.before.before.before))) (early-second c.before.before.before.before.before.before.before.before))
+          (λ h. tabled-order c.args.n0 c.args.generators0.now c.args.exchanges0.now c.args.images0.now
+          (c.build_table-members.ensures.built (c.is_left.ensures.told ∙ ap₂ any_left (early-first c.before.before.before.before.before.before.before.before) (early-second c.before.before.before.before.before.before.before.before) ∙ h)));
+    }

@@ -1,23 +1,21 @@
 -- `generators_fault` meets its contract. The invariant: what is left of the test is the whole test. Assumes nothing.
 use mathlib.Core.Path.{◌≡◌, refl, sym, ap, ◌∙◌}
 use mathlib.Core.Bool.{Bool, not}
-use mathlib.Core.List.{List, []}
-use Prim.Native.Nat.{ℕ, ◌-◌, ◌/◌}
+use mathlib.Core.List.{List}
+use Prim.Native.Nat.{ℕ, ◌/◌}
 use native.Mathlib.Nat.{div-le_self}
 use native.Mathlib.Omega.{arith}
-use lib.ListN.{length, get_or}
+use lib.ListN.{length}
 use Rattle.definitions.specs.Vector.{Vector, is_zero}
 use Rattle.definitions.specs.Group.{Exchange}
 use Rattle.definitions.specs.Completion.{remainder}
 use Rattle.definitions.specs.Lent.{rows_of, vectors_of}
-use Rattle.definitions.specs.Refusals.{fault_from}
 use Rattle.theory.proofs.CheckCall.{vectors-count}
 use Rattle.theory.proofs.Faults.{fault-start}
 use Rattle.vectors.specs.Bounds.{headroom}
 use Rattle.vectors.proofs.Rows.{vectors-within}
 use Rattle.refusals.proofs.Turns.{met-here, met_next, met-end}
 use Rattle.reduction.specs.Areas.{sequences_in}
-use Rattle.wholeness.specs.Lists.{generators_fault}
 use Rattle.wholeness.proofs.Given.{rows-ready}
 use Rattle.wholeness.proofs.generators_fault.Goals as goal
 use Rattle.wholeness.proofs.generators_fault.Goals.{Start}
@@ -72,8 +70,10 @@ row-test c =
 
 pub returns-then-not-is_zero : goal.returns-then-not-is_zero
 returns-then-not-is_zero c =
-    record { found = met-here 20 (length (vs c.before.before.before.before.before.before.before.before.before.before)) (met c.before.before.before.before.before.before.before.before.before.before) c.loop-p.p c.loop-p.invariant (omega (arith, counted c.before.before.before.before.before.before.before.before.before.before))
-    (sym (row-test c.before.before) ∙ (ap not c.if-not-is_zero.true)) }
+    record {
+      found = met-here 20 (length (vs c.before.before.before.before.before.before.before.before.before.before)) (met c.before.before.before.before.before.before.before.before.before.before) c.loop-p.p c.loop-p.invariant (omega (arith, counted c.before.before.before.before.before.before.before.before.before.before))
+          (sym (row-test c.before.before) ∙ (ap not c.if-not-is_zero.true));
+    }
 
 pub overflow_add-p : goal.overflow_add-p
 overflow_add-p c = omega (arith, div-le_self (length c.args.generators.now) c.args.shape.n)

@@ -1,24 +1,16 @@
 -- `generators_fault` meets its contract. The invariant: what is left of the test is the whole test. Assumes nothing.
-use mathlib.Core.Path.{◌≡◌, refl, sym, ap, ◌∙◌}
+use mathlib.Core.Path.{◌≡◌}
 use mathlib.Core.Bool.{Bool, not}
 use mathlib.Core.List.{List, []}
-use Prim.Native.Nat.{ℕ, ◌-◌, ◌/◌}
-use native.Mathlib.Nat.{div-le_self}
-use native.Mathlib.Omega.{arith}
+use Prim.Native.Nat.{ℕ, ◌-◌}
 use lib.ListN.{length, get_or}
 use Rattle.definitions.specs.Vector.{Vector, is_zero}
 use Rattle.definitions.specs.Group.{Exchange}
 use Rattle.definitions.specs.Completion.{remainder}
-use Rattle.definitions.specs.Lent.{rows_of, vectors_of}
+use Rattle.definitions.specs.Lent.{vectors_of}
 use Rattle.definitions.specs.Refusals.{fault_from}
-use Rattle.theory.proofs.CheckCall.{vectors-count}
-use Rattle.theory.proofs.Faults.{fault-start}
-use Rattle.vectors.specs.Bounds.{headroom}
-use Rattle.vectors.proofs.Rows.{vectors-within}
-use Rattle.refusals.proofs.Turns.{met-here, met_next, met-end}
 use Rattle.reduction.specs.Areas.{sequences_in}
 use Rattle.wholeness.specs.Lists.{generators_fault}
-use Rattle.wholeness.proofs.Given.{rows-ready}
 use Rattle.wholeness.proofs.generators_fault.Given as goal
 
 -- the test

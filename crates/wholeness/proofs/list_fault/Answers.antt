@@ -1,15 +1,10 @@
 -- `list_fault` meets its contract, case by case. Assumes nothing.
 use mathlib.Core.Path.{sym, ◌∙◌}
 use Rattle.theory.proofs.Faults.{met-first, unmet-second}
-use borrow.Author.Rules.{rules}
 use Rattle.wholeness.proofs.list_fault.Goals as goal
 
--- TODO no goal enum-told
--- enum_told : tie.Need-enum-told
--- enum_told c = search rules
-
 pub returns-in-At : goal.returns-in-At
-returns-in-At c = record { found = met-first _ _ _ (sym c.sums_fault-fault.ensures.found ∙ c.fault-1.given.1) }
+returns-in-At c = record { found = met-first _ _ _ (sym c.sums_fault-fault.ensures.found ∙ c.in-At.is) }
 
 pub returns-in-None : goal.returns-in-None
-returns-in-None c = let none = sym c.sums_fault-fault.ensures.found ∙ c.enum_told-1.given.1 in record { found = c.others_fault.ensures.found ∙ unmet-second _ none }
+returns-in-None c = let none = sym c.sums_fault-fault.ensures.found ∙ c.in-None.is in record { found = c.others_fault.ensures.found ∙ unmet-second _ none }

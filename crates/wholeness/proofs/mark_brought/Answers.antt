@@ -1,7 +1,7 @@
 -- `mark_brought` meets its contract. The invariant: the marks and keys of the rows before row `r` are set. Assumes nothing.
 use mathlib.Core.Path.{◌≡◌, refl, sym, subst, ◌∙◌}
 use mathlib.Core.List.{List}
-use Prim.Native.Nat.{◌+◌, ◌*◌, ◌-◌, ◌/◌, ◌≤◌, ◌<◌}
+use Prim.Native.Nat.{◌+◌, ◌*◌, ◌/◌, ◌≤◌, ◌<◌}
 use native.Mathlib.Nat.{div-le_self}
 use native.Mathlib.Omega.{arith}
 use lib.ListN.{length, take}
@@ -76,14 +76,6 @@ loop-r-preserved c =
       c.mark_row.auto.keys ∙ c.loop-r.invariant.2,
       rw (sym more) (c.mark_row.ensures.marked (take c.loop-r.r (vs c.before.before.before.before.before.before.before.before.before.before.before.before.before.before)) rows c.loop-r.invariant.3),
     )
-
--- TODO no goal same-length
--- same_length : tie.Need-same-length invariant-loop decreases-loop
--- same_length c = c.before.loop.invariant.1
-
--- TODO no goal same-length-2
--- same-length-2 : tie.Need-same-length-2 invariant-loop decreases-loop
--- same-length-2 c = c.before.loop.invariant.2
 
 pub returns : goal.returns
 returns c = let all = take_all c.loop-r.r (vs c.before.before.before.before.before.before) (omega (arith, counted c.before.before.before.before.before.before)) in record { marked = subst (λ (rows : List Vector). Marked (table c.before.before.before.before.before.before) rows c.loop-r.marks c.loop-r.keys) all c.loop-r.invariant.3 }

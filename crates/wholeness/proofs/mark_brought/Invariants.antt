@@ -1,22 +1,10 @@
 -- `mark_brought` meets its contract. The invariant: the marks and keys of the rows before row `r` are set. Assumes nothing.
-use mathlib.Core.Path.{◌≡◌, refl, sym, subst, ◌∙◌}
-use mathlib.Core.List.{List}
-use Prim.Native.Nat.{◌+◌, ◌*◌, ◌-◌, ◌/◌, ◌≤◌, ◌<◌}
-use native.Mathlib.Nat.{div-le_self}
-use native.Mathlib.Omega.{arith}
+use mathlib.Core.Path.{◌≡◌}
+use Prim.Native.Nat.{◌-◌, ◌≤◌}
 use lib.ListN.{length, take}
-use lib.Seq.{length-take-le, take_all}
-use Rattle.definitions.specs.Vector.{Vector}
-use Rattle.definitions.specs.Group.{Exchange}
 use Rattle.definitions.specs.Lent.{vectors_of}
-use Rattle.theory.proofs.Lists.{row-end}
-use Rattle.theory.proofs.CheckCall.{vectors-count}
-use Rattle.vectors.specs.Bounds.{headroom}
-use Rattle.vectors.proofs.Rows.{vectors-within}
 use Rattle.reduction.specs.Areas.{sequences_in}
 use Rattle.reduction.specs.Marks.{Marked}
-use Rattle.reduction.proofs.Marking.{marked-none}
-use Rattle.wholeness.proofs.Given.{one_more, rows-limited}
 use Rattle.wholeness.proofs.mark_brought.Given as goal
 
 abbrev pub invariant-loop-r : goal.invariant-loop-r

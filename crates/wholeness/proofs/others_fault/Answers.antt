@@ -2,7 +2,7 @@
 use mathlib.Core.Path.{◌≡◌, refl, sym, ap, ◌∙◌}
 use mathlib.Core.Bool.{Bool}
 use mathlib.Core.List.{List}
-use Prim.Native.Nat.{ℕ, ◌-◌, ◌/◌}
+use Prim.Native.Nat.{ℕ, ◌/◌}
 use native.Mathlib.Nat.{div-le_self}
 use native.Mathlib.Omega.{arith}
 use lib.ListN.{length}
@@ -10,12 +10,10 @@ use Rattle.definitions.specs.Vector.{Vector}
 use Rattle.definitions.specs.Group.{Exchange}
 use Rattle.definitions.specs.Completion.{has_other_below}
 use Rattle.definitions.specs.Lent.{vectors_of}
-use Rattle.definitions.specs.Refusals.{fault_from}
 use Rattle.theory.proofs.CheckCall.{vectors-count}
 use Rattle.theory.proofs.Faults.{fault-start}
 use Rattle.refusals.proofs.Turns.{met-here, met_next, met-end}
 use Rattle.reduction.specs.Areas.{sequences_in}
-use Rattle.wholeness.specs.Lists.{others_fault}
 use Rattle.wholeness.proofs.Given.{rows-marked, rows_same}
 use Rattle.wholeness.proofs.others_fault.Goals as goal
 use Rattle.wholeness.proofs.others_fault.Goals.{Start}
@@ -26,9 +24,6 @@ use Rattle.wholeness.proofs.others_fault.Tie
 -- what is known at the places that the lemmas below are about
 abbrev After-has_other_below : Type 0
 After-has_other_below = Lts.After-has_other_below Tie.the-claims Reads.Pre Reads.Post goal.the-invariant-loop-row goal.the-decreases-loop-row Tie.handed_clauses
-
-abbrev At-loop-row : Type 0
-At-loop-row = Lts.At-loop Tie.the-claims Reads.Pre Reads.Post goal.the-invariant-loop-row goal.the-decreases-loop-row Tie.handed_clauses
 
 -- the rows and the test
 module _ (s : Start) where
@@ -43,9 +38,6 @@ module _ (s : Start) where
 
   counted : length vs ≡ length s.args.rows.now / s.args.shape.n
   counted = vectors-count s.args.shape.n s.args.rows.now
-
-abbrev start : At-loop-row → Start
-start a = a.before.before.before.before.before
 
 pub nonzero_div-stored : goal.nonzero_div-stored
 nonzero_div-stored c = omega (arith, c.requires.ready.brought.rows_of_table.positive)
@@ -66,8 +58,10 @@ row-test c =
 
 pub returns-then-has_other_below : goal.returns-then-has_other_below
 returns-then-has_other_below c =
-    record { found = met-here 22 (length (vs c.before.before.before.before.before.before.before.before.before)) (met c.before.before.before.before.before.before.before.before.before) c.loop-row.row c.loop-row.invariant (omega (arith, counted c.before.before.before.before.before.before.before.before.before))
-    (sym (row-test c.before.before) ∙ c.if-has_other_below.true) }
+    record {
+      found = met-here 22 (length (vs c.before.before.before.before.before.before.before.before.before)) (met c.before.before.before.before.before.before.before.before.before) c.loop-row.row c.loop-row.invariant (omega (arith, counted c.before.before.before.before.before.before.before.before.before))
+          (sym (row-test c.before.before) ∙ c.if-has_other_below.true);
+    }
 
 pub overflow_add-row : goal.overflow_add-row
 overflow_add-row c = omega (arith, div-le_self (length c.args.rows.now) c.args.shape.n)

@@ -1,22 +1,12 @@
 -- `others_fault` meets its contract. The invariant: what is left of the test is the whole test. Assumes nothing.
-use mathlib.Core.Path.{◌≡◌, refl, sym, ap, ◌∙◌}
-use mathlib.Core.Bool.{Bool}
-use mathlib.Core.List.{List}
-use Prim.Native.Nat.{ℕ, ◌-◌, ◌/◌}
-use native.Mathlib.Nat.{div-le_self}
-use native.Mathlib.Omega.{arith}
+use mathlib.Core.Path.{◌≡◌}
+use Prim.Native.Nat.{◌-◌}
 use lib.ListN.{length}
-use Rattle.definitions.specs.Vector.{Vector}
-use Rattle.definitions.specs.Group.{Exchange}
 use Rattle.definitions.specs.Completion.{has_other_below}
 use Rattle.definitions.specs.Lent.{vectors_of}
 use Rattle.definitions.specs.Refusals.{fault_from}
-use Rattle.theory.proofs.CheckCall.{vectors-count}
-use Rattle.theory.proofs.Faults.{fault-start}
-use Rattle.refusals.proofs.Turns.{met-here, met_next, met-end}
 use Rattle.reduction.specs.Areas.{sequences_in}
 use Rattle.wholeness.specs.Lists.{others_fault}
-use Rattle.wholeness.proofs.Given.{rows-marked, rows_same}
 use Rattle.wholeness.proofs.others_fault.Given as goal
 
 abbrev pub invariant-loop-row : goal.invariant-loop-row

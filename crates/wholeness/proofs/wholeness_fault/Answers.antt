@@ -5,7 +5,6 @@ use Rattle.definitions.specs.Refusals.{wholeness_fault}
 use Rattle.theory.proofs.Faults.{met-first, unmet-first}
 use Rattle.wholeness.specs.Lists.{Ready}
 use Rattle.wholeness.proofs.Given.{marks-room}
-use borrow.Author.Rules.{rules}
 use Rattle.wholeness.proofs.wholeness_fault.Goals as goal
 use Rattle.wholeness.proofs.wholeness_fault.Lts
 use Rattle.wholeness.proofs.wholeness_fault.Reads
@@ -32,33 +31,13 @@ ready c =
 pub generators_fault-fault-requires : goal.generators_fault-fault-requires
 generators_fault-fault-requires c = record { ready = ready c.before.before.before.before.before; limited = c.requires.limited }
 
--- TODO no goal enum-told
--- enum_told : tie.Need-enum-told
--- enum_told c = search rules
-
 pub list_fault-requires : goal.list_fault-requires
-list_fault-requires c = record { ready = ready c.before.before.before.before.before.before.before.before }
-
--- TODO no goal same-length
--- same_length : tie.Need-same-length
--- same_length c = search rules
-
--- TODO no goal same-length-2
--- same-length-2 : tie.Need-same-length-2
--- same-length-2 c = search rules
+list_fault-requires c = record { ready = ready c.before.before.before.before.before.before.before }
 
 pub returns-in-At : goal.returns-in-At
 unfolding wholeness_fault
-returns-in-At c = record { found = met-first _ _ _ (sym c.generators_fault-fault.ensures.found ∙ c.fault-1.given.1) }
-
--- TODO no goal same-length-3
--- same-length-3 : tie.Need-same-length-3
--- same-length-3 c = search rules
-
--- TODO no goal same-length-4
--- same-length-4 : tie.Need-same-length-4
--- same-length-4 c = search rules
+returns-in-At c = record { found = met-first _ _ _ (sym c.generators_fault-fault.ensures.found ∙ c.in-At.is) }
 
 pub returns-in-None : goal.returns-in-None
 unfolding wholeness_fault
-returns-in-None c = record { found = c.list_fault.ensures.found ∙ unmet-first _ (sym c.generators_fault-fault.ensures.found ∙ c.enum_told-1.given.1) }
+returns-in-None c = record { found = c.list_fault.ensures.found ∙ unmet-first _ (sym c.generators_fault-fault.ensures.found ∙ c.in-None.is) }

@@ -1,6 +1,6 @@
 -- `window` meets its contract: the List, and then the tests and the run. Assumes nothing.
 use mathlib.Core.Path.{◌≡◌, refl, ap, ap₂, ◌∙◌}
-use mathlib.Core.List.{List, []}
+use mathlib.Core.List.{[]}
 use Prim.Native.Nat.{ℕ}
 use lib.IntN.{pos}
 use lib.ListN.{length}
@@ -16,19 +16,8 @@ use Rattle.moves.proofs.Ends.{finds-is, found-refused, promise-accepted}
 use Rattle.moves.proofs.Splits.{Numbered, listed, listed-held, listed_same}
 use Rattle.windows.proofs.Endings.{call-listed, call-unlisted, ends_same, refused-ends}
 use Rattle.windows.proofs.Promised.{window-promise}
-use borrow.Author.Rules.{rules}
 use Rattle.windows.proofs.window.Goals as goal
-use Rattle.windows.proofs.window.Goals.{Start}
-use Rattle.windows.proofs.window.Lts
-use Rattle.windows.proofs.window.Reads
-use Rattle.windows.proofs.window.Tie
-
--- what is known at the places that the lemmas below are about
-abbrev After-make_list-found : Type 0
-After-make_list-found = Lts.After-make_list Tie.the-claims Reads.Pre Reads.Post Tie.handed_clauses
-
-abbrev In-Found-2 : Type 0
-In-Found-2 = Lts.After-found2 Tie.the-claims Reads.Pre Reads.Post Tie.handed_clauses
+use Rattle.windows.proofs.window.Goals.{After-make_list-found, In-Found, Start}
 
 -- what was sent, and the sizes of the areas
 module _ (s : Start) where
@@ -44,74 +33,58 @@ module _ (s : Start) where
 -- the areas that the List leaves
 module _ (f : After-make_list-found) where
   abbrev start : Start
-  start = f.before.before.before.before.before
+  start = (goal.at.After-make_list-found f).Start
 
   long : length f.make_list-found.new.list ≡ length start.args.list.now
-  long = f.make_list-found.kept.1.1.1.1.0
+  long = f.make_list-found.auto.list
 
   wide : length f.make_list-found.new.group ≡ length start.args.group.now
-  wide = f.make_list-found.kept.1.1.1.1.1.0
+  wide = f.make_list-found.auto.group
 
 -- the List found something
-module _ (k : In-Found-2) where
+module _ (k : In-Found) where
   abbrev f : After-make_list-found
-  f = k.before.before.before.before.before
+  f = (goal.at.In-Found k).After-make_list-found
 
   abbrev numbers : Numbers
-  numbers = record { rows = k.found-in-Found-1.given.0.0; members = k.found-in-Found-1.given.0.1.0; stored = k.found-in-Found-1.given.0.1.1.0; sums = k.found-in-Found-1.given.0.1.1.1.0 }
+  numbers = record { rows = k.in-Found.rows; members = k.in-Found.members; stored = k.in-Found.stored; sums = k.in-Found.sums }
 
-  promised : ListPromise (sent f.before.before.before.before.before) (length f.args.list.now) (length f.args.group.now) (Moves numbers.rows numbers.members numbers.stored numbers.sums)
+  promised : ListPromise (sent (start f)) (length f.args.list.now) (length f.args.group.now) (Moves numbers.rows numbers.members numbers.stored numbers.sums)
       f.make_list-found.new.list f.make_list-found.new.group
-  promised = promise-accepted (sent f.before.before.before.before.before) _ _ _ _ _ _ (long f) (wide f) (finds-is f.make_list-found.ensures.found k.found-in-Found-1.given.1)
+  promised = promise-accepted (sent (start f)) _ _ _ _ _ _ (long f) (wide f) (finds-is f.make_list-found.ensures.found k.in-Found.is)
 
   found : Numbered promised (long f) (wide f) numbers
   found = listed promised (long f) (wide f) numbers refl
 
--- TODO no goal enum-known-found-2
--- enum-known-found-2 : tie.Need-enum-known-found-2
--- enum-known-found-2 c = search rules
-
 pub test_listed-requires : goal.test_listed-requires
-test_listed-requires c = record { held = listed-held (promised c.before.before.before.before.before) (long c.before.before.before.before.before.before.before.before.before.before) (wide c.before.before.before.before.before.before.before.before.before.before) (found c.before.before.before.before.before) }
-
--- TODO no goal same-length
--- same_length : tie.Need-same-length
--- same_length c = search rules
-
--- TODO no goal same-length-2
--- same-length-2 : tie.Need-same-length-2
--- same-length-2 c = search rules
-
--- TODO no goal same-length-3
--- same-length-3 : tie.Need-same-length-3
--- same-length-3 c = search rules
+test_listed-requires c =
+    let p = (goal.at.test_listed-requires c).In-Found in
+    let q = (goal.at.test_listed-requires c).After-make_list-found in
+    record { held = listed-held (promised p) (long q) (wide q) (found p) }
 
 pub returns-in-Refused : goal.returns-in-Refused
 returns-in-Refused c =
-    let x = c.refuse in record { kept = window-promise (sent c.before.before.before.before.before.before.before.before.before.before.before.before.before.before.before.before.before.before.before.before) (chain c.before.before.before.before.before.before.before.before.before.before.before.before.before.before.before.before.before.before.before.before) (areas c.before.before.before.before.before.before.before.before.before.before.before.before.before.before.before.before.before.before.before.before)
-    (ends_same (call-unlisted (sent c.before.before.before.before.before.before.before.before.before.before.before.before.before.before.before.before.before.before.before.before) (chain c.before.before.before.before.before.before.before.before.before.before.before.before.before.before.before.before.before.before.before.before) (areas c.before.before.before.before.before.before.before.before.before.before.before.before.before.before.before.before.before.before.before.before) (found-refused (sent c.before.before.before.before.before.before.before.before.before.before.before.before.before.before.before.before.before.before.before.before) _ _ (finds-is c.make_list-found.ensures.found c.found-1.given.1))) x.ensures.refused.answer_is
-    (refused-ends (areas c.before.before.before.before.before.before.before.before.before.before.before.before.before.before.before.before.before.before.before.before) _ _ c.args.answers.now refl
-    (x.ensures.refused.list_holds ∙ ap (λ (m : ℕ). filled (pos 0) m []) (long c.before.before.before.before.before.before.before.before.before.before.before.before.before.before.before)) (x.ensures.refused.group_holds ∙ ap (λ (m : ℕ). filled 0 m []) (wide c.before.before.before.before.before.before.before.before.before.before.before.before.before.before.before)) x.ensures.refused.answers_hold))
-    (x.auto.list ∙ long c.before.before.before.before.before.before.before.before.before.before.before.before.before.before.before) (x.auto.group ∙ wide c.before.before.before.before.before.before.before.before.before.before.before.before.before.before.before) x.auto.answers }
-
--- TODO no goal same-length-4
--- same-length-4 : tie.Need-same-length-4
--- same-length-4 c = search rules
-
--- TODO no goal same-length-5
--- same-length-5 : tie.Need-same-length-5
--- same-length-5 c = search rules
-
--- TODO no goal same-length-6
--- same-length-6 : tie.Need-same-length-6
--- same-length-6 c = search rules
+    let s = (goal.at.returns-in-Refused c).Start in
+    let p = (goal.at.returns-in-Refused c).After-make_list-found in
+    let x = c.refuse in record {
+      kept = window-promise (sent s) (chain s) (areas s)
+          (ends_same (call-unlisted (sent s) (chain s) (areas s) (found-refused (sent s) _ _ (finds-is c.make_list-found.ensures.found c.in-Refused.is))) x.ensures.refused.answer_is
+          (refused-ends (areas s) _ _ c.args.answers.now refl
+          (x.ensures.refused.list_holds ∙ ap (λ (m : ℕ). filled (pos 0) m []) (long p)) (x.ensures.refused.group_holds ∙ ap (λ (m : ℕ). filled 0 m []) (wide p)) x.ensures.refused.answers_hold))
+          (x.auto.list ∙ long p) (x.auto.group ∙ wide p) x.auto.answers;
+    }
 
 pub returns-in-Found : goal.returns-in-Found
 returns-in-Found c =
+    let p = (goal.at.returns-in-Found c).In-Found in
+    let s = (goal.at.returns-in-Found c).Start in
+    let q = (goal.at.returns-in-Found c).After-make_list-found in
     let x = c.test_listed in
-    let at : Listing = listing_in c.args.n (numbers c.before.before.before.before.before.before.before.before.before.before) c.make_list-found.new.list c.make_list-found.new.group in record { kept = window-promise (sent c.before.before.before.before.before.before.before.before.before.before.before.before.before.before.before.before.before.before.before.before) (chain c.before.before.before.before.before.before.before.before.before.before.before.before.before.before.before.before.before.before.before.before) (areas c.before.before.before.before.before.before.before.before.before.before.before.before.before.before.before.before.before.before.before.before)
-    (ends_same
-    (ap₂ (λ (l m : ℕ). window_of c.args.n (chain c.before.before.before.before.before.before.before.before.before.before.before.before.before.before.before.before.before.before.before.before) (record { list = l; group = m; answers = length c.args.answers.now }) (accepted at)) (long c.before.before.before.before.before.before.before.before.before.before.before.before.before.before.before) (wide c.before.before.before.before.before.before.before.before.before.before.before.before.before.before.before)
-    ∙ call-listed (sent c.before.before.before.before.before.before.before.before.before.before.before.before.before.before.before.before.before.before.before.before) (chain c.before.before.before.before.before.before.before.before.before.before.before.before.before.before.before.before.before.before.before.before) (areas c.before.before.before.before.before.before.before.before.before.before.before.before.before.before.before.before.before.before.before.before) (listed_same (promised c.before.before.before.before.before.before.before.before.before.before) (long c.before.before.before.before.before.before.before.before.before.before.before.before.before.before.before) (wide c.before.before.before.before.before.before.before.before.before.before.before.before.before.before.before) (found c.before.before.before.before.before.before.before.before.before.before)))
-    refl x.ensures.ended)
-    (x.auto.list ∙ long c.before.before.before.before.before.before.before.before.before.before.before.before.before.before.before) (x.auto.group ∙ wide c.before.before.before.before.before.before.before.before.before.before.before.before.before.before.before) x.auto.answers }
+    let at : Listing = listing_in c.args.n (numbers p) c.make_list-found.new.list c.make_list-found.new.group in record {
+      kept = window-promise (sent s) (chain s) (areas s)
+          (ends_same
+          (ap₂ (λ (l m : ℕ). window_of c.args.n (chain s) (record { list = l; group = m; answers = length c.args.answers.now }) (accepted at)) (long q) (wide q)
+          ∙ call-listed (sent s) (chain s) (areas s) (listed_same (promised p) (long q) (wide q) (found p)))
+          refl x.ensures.ended)
+          (x.auto.list ∙ long q) (x.auto.group ∙ wide q) x.auto.answers;
+    }

@@ -1,14 +1,9 @@
 -- `read_exchanges` meets its contract. The invariant: the numbers of the commands before `at` are in the area. Assumes nothing.
-use mathlib.Core.Path.{◌≡◌, sym, subst⁻¹, ◌∙◌}
-use Prim.Native.Nat.{ℕ, ◌-◌}
-use native.Mathlib.Omega.{arith}
+use Prim.Native.Nat.{◌-◌}
 use lib.ListN.{length}
-use borrow.Author.Rules.{rules}
-use Rattle.commands.specs.declared.Reading.TheVariants.{Known}
-use Rattle.commands.specs.Commands.{command_at, exchange_code}
-use Rattle.commands.proofs.Known.{known_at}
-use Rattle.orders.specs.Operands.{byte_numbers, exchanges_in}
-use Rattle.orders.proofs.Walks.{Walking, holds-exchange, walk_start, walk_inside, walk-room, walk_turn, walk_end, walk-length}
+use Rattle.commands.specs.Commands.{exchange_code}
+use Rattle.orders.specs.Operands.{byte_numbers}
+use Rattle.orders.proofs.Walks.{Walking}
 use Rattle.orders.proofs.operands.read_exchanges.Given as goal
 
 abbrev pub invariant-loop-command : goal.invariant-loop-command

@@ -1,7 +1,6 @@
 -- `read_images` meets its contract. Assumes nothing.
 use mathlib.Core.Path.{refl}
 use mathlib.Core.Logic.{inr}
-use borrow.Author.Rules.{rules}
 use Rattle.orders.specs.Operands.{images_in}
 use Rattle.orders.proofs.Walks.{holds-image}
 use Rattle.orders.proofs.operands.read_images.Goals as goal
@@ -10,6 +9,6 @@ pub read_wide-requires : goal.read_wide-requires
 unfolding images_in
 read_wide-requires c = record { readable = c.requires.readable; kind = (inr refl, holds-image c.args.c); room = c.requires.room }
 
--- TODO no goal same-length
--- same_length : tie.Need-same-length
--- same_length c = search rules
+pub returns : goal.returns
+unfolding images_in
+returns c = record { read = c.read_wide.ensures.read }

@@ -1,7 +1,6 @@
 -- `read_rows` meets its contract. Assumes nothing.
 use mathlib.Core.Path.{refl}
 use mathlib.Core.Logic.{inl}
-use borrow.Author.Rules.{rules}
 use Rattle.orders.specs.Operands.{rows_in}
 use Rattle.orders.proofs.Walks.{holds_row}
 use Rattle.orders.proofs.operands.read_rows.Goals as goal
@@ -10,6 +9,6 @@ pub read_numbers-requires : goal.read_numbers-requires
 unfolding rows_in
 read_numbers-requires c = record { readable = c.requires.readable; kind = (inl refl, holds_row c.args.c); room = c.requires.room }
 
--- TODO no goal same-length
--- same_length : tie.Need-same-length
--- same_length c = search rules
+pub returns : goal.returns
+unfolding rows_in
+returns c = record { read = c.read_numbers.ensures.read }

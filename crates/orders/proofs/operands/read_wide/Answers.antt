@@ -1,68 +1,40 @@
 -- `read_wide` meets its contract. The invariant: the numbers of the commands before `at` are in the area. Assumes nothing.
-use mathlib.Core.Path.{◌≡◌, sym, subst⁻¹, ◌∙◌}
-use Prim.Native.Nat.{ℕ, ◌-◌}
+use mathlib.Core.Path.{sym, subst⁻¹, ◌∙◌}
+use Prim.Native.Nat.{ℕ}
 use native.Mathlib.Omega.{arith}
-use lib.ListN.{length}
-use borrow.Author.Rules.{rules}
-use Rattle.commands.specs.declared.Reading.TheVariants.{Known}
-use Rattle.commands.specs.Commands.{command_at}
 use Rattle.commands.proofs.Known.{known_at}
 use Rattle.orders.specs.Walk.{signed_in}
-use Rattle.orders.proofs.Walks.{Walking, walk_start, walk_inside, walk-room, walk_turn, walk_end, walk-length}
+use Rattle.orders.proofs.Walks.{Walking, walk_start, walk_inside, walk-room, walk_turn, walk_end}
 use Rattle.orders.proofs.operands.read_wide.Goals as goal
-use Rattle.orders.proofs.operands.read_wide.Goals.{Start}
-use Rattle.orders.proofs.operands.read_wide.Lts
-use Rattle.orders.proofs.operands.read_wide.Reads
-use Rattle.orders.proofs.operands.read_wide.Tie
-
--- what is known at the places that the lemmas below are about
-abbrev In-Known-2 : Type 0
-In-Known-2 = Lts.After-reading Tie.the-claims Reads.Pre Reads.Post goal.the-invariant-loop-command goal.the-decreases-loop-command Tie.handed_clauses
 
 pub loop-command-init : goal.loop-command-init
 loop-command-init c = let a = c.args in walk_start a.kind.code (signed_in a.kind) a.order.now a.c a.area.now c.requires.readable
 
--- TODO no goal same-length
--- same_length : tie.Need-same-length invariant-loop decreases-loop
--- same_length c =
---     let s = c.before.before.before.before in
---     let a = s.args in
---     let l = c.before.before.loop in
---     walk-length a.kind.code (signed_in a.kind) a.order.now a.c a.area.now l.area l.at l.filled l.invariant s.requires.1.1
-
 pub returns-in_default : goal.returns-in_default
 returns-in_default c =
     let a = c.args in
-    let l = c.loop-command in record { read = walk_end a.kind.code (signed_in a.kind) a.order.now a.c a.area.now l.area l.at l.filled l.invariant c.command_at-reading.ensures.due c.in_default.keys2 }
-
--- the command that was read
-module _ (c : In-Known-2) where
-  abbrev start : Start
-  start = c.before.before.before.before.before
-
-  known : command_at start.args.order.now c.loop-command.at ≡ Known c.reading-1.given.0.0
-  known = sym c.command_at-reading.ensures.due ∙ c.reading-1.given.1
+    let l = c.loop-command in record { read = walk_end a.kind.code (signed_in a.kind) a.order.now a.c a.area.now l.area l.at l.filled l.invariant c.command_at-reading.ensures.due c.in_default.not-Known }
 
 pub take_wide-filled-requires : goal.take_wide-filled-requires
 take_wide-filled-requires c =
     let a = c.args in
     let l = c.loop-command in
-    let x = c.reading-1.given.0.0 in
-    let fits = walk_inside a.kind.code (signed_in a.kind) a.order.now a.c a.area.now l.area l.at l.filled x (known c.before.before.before) l.invariant in
-    let room = walk-room a.kind.code (signed_in a.kind) a.order.now a.c a.area.now l.area l.at l.filled x (known c.before.before.before) l.invariant c.requires.room in record { size = c.requires.kind.0; inside = (λ e. omega (arith, c.requires.kind.1 x e)); room = room }
+    let x = c.in-Known.command in
+    let fits = walk_inside a.kind.code (signed_in a.kind) a.order.now a.c a.area.now l.area l.at l.filled x (sym c.command_at-reading.ensures.due ∙ c.in-Known.is) l.invariant in
+    let room = walk-room a.kind.code (signed_in a.kind) a.order.now a.c a.area.now l.area l.at l.filled x (sym c.command_at-reading.ensures.due ∙ c.in-Known.is) l.invariant c.requires.room in record { size = c.requires.kind.0; inside = (λ e. omega (arith, c.requires.kind.1 x e)); room = room }
 
 pub behind-at-requires : goal.behind-at-requires
 behind-at-requires c =
     let few = c.requires.readable.limited.few in
-    let o = known_at c.args.order.now c.loop-command.at c.reading-1.given.0.0 (known c.before.before.before.before.before) in record { limited = (few.cells-ok, few.generators-ok); inside = omega arith }
+    let o = known_at c.args.order.now c.loop-command.at c.in-Known.command (sym c.command_at-reading.ensures.due ∙ c.in-Known.is) in record { limited = (few.cells-ok, few.generators-ok); inside = omega arith }
 
 pub loop-command-smaller : goal.loop-command-smaller
 loop-command-smaller c =
     let a = c.args in
     let l = c.loop-command in
-    let x = c.reading-1.given.0.0 in
-    let fits = walk_inside a.kind.code (signed_in a.kind) a.order.now a.c a.area.now l.area l.at l.filled x (known c.before.before.before.before.before.before) l.invariant in
-    let o = known_at a.order.now l.at x (known c.before.before.before.before.before.before) in
+    let x = c.in-Known.command in
+    let fits = walk_inside a.kind.code (signed_in a.kind) a.order.now a.c a.area.now l.area l.at l.filled x (sym c.command_at-reading.ensures.due ∙ c.in-Known.is) l.invariant in
+    let o = known_at a.order.now l.at x (sym c.command_at-reading.ensures.due ∙ c.in-Known.is) in
     omega (arith, c.behind-at.ensures.next)
 
 pub loop-command-preserved : goal.loop-command-preserved
@@ -71,4 +43,4 @@ loop-command-preserved c =
     let l = c.loop-command in
     let t = c.take_wide-filled in
     subst⁻¹ (λ (at : ℕ). Walking a.kind.code (signed_in a.kind) a.order.now a.c a.area.now t.new.area at t.result) c.behind-at.ensures.next
-    (walk_turn a.kind.code (signed_in a.kind) a.order.now a.c a.area.now l.area l.at l.filled c.reading-1.given.0.0 (known c.before.before.before.before.before.before) _ t.result l.invariant t.ensures.taken c.requires.room)
+    (walk_turn a.kind.code (signed_in a.kind) a.order.now a.c a.area.now l.area l.at l.filled c.in-Known.command (sym c.command_at-reading.ensures.due ∙ c.in-Known.is) _ t.result l.invariant t.ensures.taken c.requires.room)

@@ -4,11 +4,10 @@ use mathlib.Core.List.{List}
 use Prim.Native.Nat.{ℕ, ◌+◌, ◌-◌, ◌*◌, ◌≤◌}
 use native.Mathlib.Omega.{arith}
 use lib.ListN.{length, take, drop}
-use borrow.Author.Rules.{rules}
 use Rattle.commands.specs.Commands.{exchange_code, code_of}
 use Rattle.orders.specs.Operands.{byte_numbers, command_numbers}
 use Rattle.orders.proofs.Numbers.{byte-count, numbers-here, numbers-none}
-use Rattle.orders.proofs.Walks.{Laying, laying-start, laying-turn, laying-end, byte-at, taken_none}
+use Rattle.orders.proofs.Walks.{laying-start, laying-turn, laying-end, byte-at, taken_none}
 use Rattle.orders.proofs.Parts.{part-whole, part_room}
 use Rattle.orders.proofs.operands.take_bytes.Goals as goal
 use Rattle.orders.proofs.operands.take_bytes.Goals.{Start}
@@ -23,8 +22,10 @@ After-operands_of-from = Lts.After-operands_of Tie.the-claims Reads.Pre Reads.Po
 pub returns-then-code_of-ne-EXCHANGE : goal.returns-then-code_of-ne-EXCHANGE
 returns-then-code_of-ne-EXCHANGE c =
     let a = c.args in
-    let e = c.code_of.ensures in record { taken = taken_none (command_numbers exchange_code (byte_numbers a.count) a.order.now a.command) a.filled a.area.now
-    (numbers-none exchange_code (byte_numbers a.count) a.order.now a.command (λ k. c.if-code_of-ne-EXCHANGE.true (e ∙ k))) }
+    let e = c.code_of.ensures.code in record {
+      taken = taken_none (command_numbers exchange_code (byte_numbers a.count) a.order.now a.command) a.filled a.area.now
+          (numbers-none exchange_code (byte_numbers a.count) a.order.now a.command (λ k. c.if-code_of-ne-EXCHANGE.true (e ∙ k)));
+    }
 
 -- what is known at the operands
 module _ (c : After-operands_of-from) where
@@ -36,7 +37,7 @@ module _ (c : After-operands_of-from) where
 
   -- the command is one of these
   same_code : code_of start.args.command ≡ exchange_code
-  same_code = sym c.code_of.ensures ∙ c.if-code_of-ne-EXCHANGE.false
+  same_code = sym c.code_of.ensures.code ∙ c.if-code_of-ne-EXCHANGE.false
 
   -- its numbers are those of the part
   here : command_numbers exchange_code (byte_numbers start.args.count) start.args.order.now start.args.command ≡ byte_numbers start.args.count part
@@ -85,10 +86,6 @@ loop-j-smaller c = omega arith
 
 pub overflow_add-result : goal.overflow_add-result
 overflow_add-result c = omega (arith, room c.before.before.before.before)
-
--- TODO no goal same-length
--- same_length : tie.Need-same-length invariant-loop decreases-loop
--- same_length c = c.before.loop.invariant.same
 
 pub returns : goal.returns
 returns c =

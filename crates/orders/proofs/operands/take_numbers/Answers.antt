@@ -7,13 +7,12 @@ use lib.IntN.{pos}
 use lib.ListN.{length, take, drop}
 use mir.Syntax.{w32}
 use mir.ValLaws.{to_z-of_z}
-use borrow.Author.Rules.{rules}
 use Rattle.commands.specs.Commands.{code_of}
 use Rattle.orders.specs.Operands.{command_numbers}
 use Rattle.orders.specs.Walk.{signed_in}
 use Rattle.orders.proofs.Parts.{part-whole, part_room}
 use Rattle.orders.proofs.Numbers.{numbers-here, numbers-none, signed-count}
-use Rattle.orders.proofs.Walks.{Laying, laying-start, laying-turn, laying-end, signed-at, taken_none}
+use Rattle.orders.proofs.Walks.{laying-start, laying-turn, laying-end, signed-at, taken_none}
 use Rattle.orders.proofs.operands.take_numbers.Goals as goal
 use Rattle.orders.proofs.operands.take_numbers.Goals.{Start}
 use Rattle.orders.proofs.operands.take_numbers.Lts
@@ -27,8 +26,10 @@ After-operands_of-from = Lts.After-operands_of Tie.the-claims Reads.Pre Reads.Po
 pub returns-then-code_of-kind : goal.returns-then-code_of-kind
 returns-then-code_of-kind c =
     let a = c.args in
-    let e = c.code_of.ensures in record { taken = taken_none (command_numbers a.kind.code (signed_in a.kind) a.order.now a.command) a.filled a.area.now
-    (numbers-none a.kind.code (signed_in a.kind) a.order.now a.command (λ k. c.if-code_of-kind.true (e ∙ k))) }
+    let e = c.code_of.ensures.code in record {
+      taken = taken_none (command_numbers a.kind.code (signed_in a.kind) a.order.now a.command) a.filled a.area.now
+          (numbers-none a.kind.code (signed_in a.kind) a.order.now a.command (λ k. c.if-code_of-kind.true (e ∙ k)));
+    }
 
 -- what is known at the operands
 module _ (c : After-operands_of-from) where
@@ -40,7 +41,7 @@ module _ (c : After-operands_of-from) where
 
   -- the command is one of the kind
   same_code : code_of start.args.command ≡ start.args.kind.code
-  same_code = sym c.code_of.ensures ∙ c.if-code_of-kind.false
+  same_code = sym c.code_of.ensures.code ∙ c.if-code_of-kind.false
 
   -- its numbers are those of the part
   here : command_numbers start.args.kind.code (signed_in start.args.kind) start.args.order.now start.args.command ≡ signed_in start.args.kind part
@@ -99,10 +100,6 @@ loop-j-preserved c =
 
 pub overflow_add-result : goal.overflow_add-result
 overflow_add-result c = omega (arith, room c.before.before.before.before.before.before)
-
--- TODO no goal same-length
--- same_length : tie.Need-same-length invariant-loop decreases-loop
--- same_length c = c.before.before.before.loop.invariant.same
 
 pub returns : goal.returns
 returns c =

@@ -1,0 +1,12 @@
+-- `split` is safe: what it lends of its areas lies within them. Assumes nothing.
+use lib.IntN.{pos}
+use Rattle.definitions.specs.Limits.{cells, group_limit, list_limit}
+use Rattle.samples.proofs.Areas.{part-long}
+use borrow.Author.Rules.{rules}
+use Rattle.samples.proofs.split.Goals as goal
+
+pub slice_bounds-split-end : goal.slice_bounds-split-end
+slice_bounds-split-end c = part-long list_limit cells c.args.n (pos 0) c.requires.sized
+
+pub slice_bounds-split-end-2 : goal.slice_bounds-split-end-2
+slice_bounds-split-end-2 c = part-long group_limit cells c.args.n 0 c.requires.sized
