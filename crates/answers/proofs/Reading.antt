@@ -1,5 +1,6 @@
 -- A line that begins with a word says its counts (Specification 9): no other counts have the same text. Assumes
 -- nothing.
+use Rattle.std.specs.Prelude.{if◌then◌else◌}
 use mathlib.Core.Path.{◌≡◌, refl, sym, ◌∙◌, ap}
 use mathlib.Core.List.{List, [], ◌∷◌, ◌++◌, map, append_assoc}
 use mathlib.Core.Logic.{⊎_elim}
@@ -9,7 +10,7 @@ use borrow.Author.Tests.{le-ltb}
 use lib.Dec.{ltb}
 use lib.ListN.{length, drop}
 use lib.Seq.{drop-append_seam}
-use Rattle.definitions.specs.Lists.{concat, if◌then◌else◌}
+use Rattle.definitions.specs.Lists.{concat}
 use Rattle.answers.specs.Text.{digit_zero, decimal}
 use Rattle.answers.specs.Answers.{line_feed, count_text, head_text}
 use Rattle.answers.proofs.Pages.{either}

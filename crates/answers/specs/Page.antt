@@ -1,7 +1,6 @@
 -- A text in a lent area (Specification 9.4), also where it is written piece by piece. Assumes nothing.
-use Rattle.std.specs.Prelude.{◌≡◌, List, Bool, ℕ, ◌+◌, ◌-◌, length, replicate, leb}
+use Rattle.std.specs.Prelude.{◌≡◌, List, Bool, ℕ, ◌+◌, ◌-◌, length, replicate, leb, if◌then◌else◌}
 use Rattle.std.proofs.Math.Seq.{paste}
-use Rattle.definitions.specs.Lists.{if◌then◌else◌}
 use Rattle.definitions.specs.Lent.{filled}
 use Rattle.vectors.specs.Areas.{LentMut}
 

@@ -1,6 +1,5 @@
 -- Specification 9: numbers in decimal, as bytes of ASCII. Assumes nothing.
-use Rattle.std.specs.Prelude.{List, [], ◌∷◌, ◌++◌, ℕ, zero, suc, ◌+◌, ◌/◌, ◌%◌, ltb, ℤ, pos, negsuc, length}
-use Rattle.definitions.specs.Lists.{if◌then◌else◌}
+use Rattle.std.specs.Prelude.{List, [], ◌∷◌, ◌++◌, ℕ, zero, suc, ◌+◌, ◌/◌, ◌%◌, ltb, ℤ, pos, negsuc, length, if◌then◌else◌}
 
 -- the bytes of the digit 0 and of the minus sign
 abbrev pub digit_zero : ℕ

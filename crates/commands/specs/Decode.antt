@@ -1,6 +1,5 @@
 -- Specification 8.1: numbers of several bytes. Assumes nothing.
-use Rattle.std.specs.Prelude.{List, ℕ, zero, suc, ◌+◌, ◌-◌, ◌*◌, ◌^◌, get_or, ltb, ℤ, pos, ◌-ℤ◌}
-use Rattle.definitions.specs.Lists.{if◌then◌else◌}
+use Rattle.std.specs.Prelude.{List, ℕ, zero, suc, ◌+◌, ◌-◌, ◌*◌, ◌^◌, get_or, ltb, ℤ, pos, ◌-ℤ◌, if◌then◌else◌}
 
 -- the unsigned number of one byte
 abbrev pub byte_at : (part : List ℕ) (at : ℕ) → ℕ

@@ -1,6 +1,6 @@
 -- Specification 3.10: the best plan within a budget. For each input the answer, and what every area lent for writing
 -- holds at the end. Such an area is given by its size. Assumes nothing.
-use Rattle.std.specs.Prelude.{Bool, true, false, ◌&&◌, ◌||◌, not, List, [], ◌∷◌, ℕ, suc, ◌+◌, ◌*◌, max, leb, ltb, eqb, ℤ, pos, negsuc, nat_abs, ◌+ℤ◌, ◌-ℤ◌, ◌*ℤ◌, length, get_or, take}
+use Rattle.std.specs.Prelude.{Bool, true, false, ◌&&◌, ◌||◌, not, List, [], ◌∷◌, ℕ, suc, ◌+◌, ◌*◌, max, leb, ltb, eqb, ℤ, pos, negsuc, nat_abs, ◌+ℤ◌, ◌-ℤ◌, ◌*ℤ◌, length, get_or, take, if◌then◌else◌}
 use Rattle.std.specs.Int.Signed.{non_neg, le_z}
 use Rattle.definitions.specs.declared.Fault.{Fault}
 use Rattle.definitions.specs.declared.Fault.TheVariants.{None, At}
@@ -8,7 +8,7 @@ use Rattle.definitions.specs.declared.Planned.{Planned}
 use Rattle.definitions.specs.declared.Planned.TheVariants.{Cheapest, Spent, Refused}
 use Rattle.definitions.specs.declared.Terms.{Terms}
 use Rattle.definitions.specs.Limits.{bound_limit, budget_limit, cost_limit}
-use Rattle.definitions.specs.Lists.{if◌then◌else◌, concat, until}
+use Rattle.definitions.specs.Lists.{concat, until}
 use Rattle.definitions.specs.Vector.{Vector, padded, plus, zero_vector}
 use Rattle.definitions.specs.Orbit.{orbits}
 use Rattle.definitions.specs.Lent.{Order, filled, numbers_of}

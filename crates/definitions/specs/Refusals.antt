@@ -1,11 +1,11 @@
 -- Specification 7: the table of refusals, for lent calls. 12 and 13 are in Completion, 24 in Certified. Assumes
 -- nothing.
-use Rattle.std.specs.Prelude.{Bool, false, ◌&&◌, ◌||◌, not, List, [], ◌∷◌, ◌++◌, map, ℕ, zero, suc, ◌+◌, ◌*◌, ◌/◌, ℤ, pos, nat_abs, leb, eqb, length, get_or}
+use Rattle.std.specs.Prelude.{Bool, false, ◌&&◌, ◌||◌, not, List, [], ◌∷◌, ◌++◌, map, ℕ, zero, suc, ◌+◌, ◌*◌, ◌/◌, ℤ, pos, nat_abs, leb, eqb, length, get_or, if◌then◌else◌}
 use Rattle.definitions.specs.declared.Fault.{Fault}
 use Rattle.definitions.specs.declared.Fault.TheVariants.{None, At}
 use Rattle.definitions.specs.Limits.{cells, entry_limit, split_limit, coefficient_limit}
 use Rattle.definitions.specs.Limits.{list_limit, generator_limit, exchange_limit, bare_limit, image_limit, piece_width}
-use Rattle.definitions.specs.Lists.{if◌then◌else◌, any}
+use Rattle.definitions.specs.Lists.{any}
 use Rattle.definitions.specs.Vector.{Vector, negative, within, is_zero, equal, is_member}
 use Rattle.definitions.specs.Lattice.{combination}
 use Rattle.definitions.specs.Group.{Exchange, is_exchange, exchanged}

@@ -1,12 +1,12 @@
 -- Specification 3.8: a session, two orders on one group table. For each input both answers, and what the list area and
 -- the group area hold at the end. An area lent for writing is given by its size. Assumes nothing.
-use Rattle.std.specs.Prelude.{Bool, true, false, ◌&&◌, not, List, [], ◌∷◌, ◌++◌, ℕ, suc, ◌+◌, ◌*◌, ◌/◌, eqb, ℤ, pos, length, take, drop}
+use Rattle.std.specs.Prelude.{Bool, true, false, ◌&&◌, not, List, [], ◌∷◌, ◌++◌, ℕ, suc, ◌+◌, ◌*◌, ◌/◌, eqb, ℤ, pos, length, take, drop, if◌then◌else◌}
 use Rattle.definitions.specs.declared.Ending.{Ending}
 use Rattle.definitions.specs.declared.Ending.TheVariants.{Moves, Unfinished, Refused}
 use Rattle.definitions.specs.declared.Fault.{Fault}
 use Rattle.definitions.specs.declared.Fault.TheVariants.{None, At}
 use Rattle.definitions.specs.Limits.{session_rows}
-use Rattle.definitions.specs.Lists.{if◌then◌else◌, concat}
+use Rattle.definitions.specs.Lists.{concat}
 use Rattle.definitions.specs.Group.{Exchange}
 use Rattle.definitions.specs.Completion.{Completion, running, stopped, begun, step, is_finished}
 use Rattle.definitions.specs.Lent.{Order, filled, numbers_of, generators_of, table_of}

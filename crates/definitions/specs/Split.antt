@@ -1,7 +1,6 @@
 -- Specification 4: the pieces of a vector. Assumes nothing.
-use Rattle.std.specs.Prelude.{Bool, true, false, List, [], ◌∷◌, ◌++◌, ℕ, zero, suc, ◌/◌, min, ℤ, pos, negsuc, nat_abs, ◌*ℤ◌, eqb}
+use Rattle.std.specs.Prelude.{Bool, true, false, List, [], ◌∷◌, ◌++◌, ℕ, zero, suc, ◌/◌, min, ℤ, pos, negsuc, nat_abs, ◌*ℤ◌, eqb, if◌then◌else◌}
 use Rattle.std.specs.Int.Signed.{non_neg}
-use Rattle.definitions.specs.Lists.{if◌then◌else◌}
 use Rattle.definitions.specs.Vector.{Vector, negative, minus, scale, weight}
 use Rattle.definitions.specs.Group.{Exchange, exchanged}
 

@@ -1,8 +1,8 @@
 -- Specification 2.1 and 2.3: vectors of whole numbers. Assumes nothing.
-use Rattle.std.specs.Prelude.{Bool, true, false, ◌&&◌, ◌||◌, not, List, [], ◌∷◌, ◌++◌, ℕ, ◌+◌, ◌-◌, max, ℤ, pos, negsuc, nat_abs, neg_ℤ, ◌+ℤ◌, ◌*ℤ◌, leb, eqb, length, replicate}
+use Rattle.std.specs.Prelude.{Bool, true, false, ◌&&◌, ◌||◌, not, List, [], ◌∷◌, ◌++◌, ℕ, ◌+◌, ◌-◌, max, ℤ, pos, negsuc, nat_abs, neg_ℤ, ◌+ℤ◌, ◌*ℤ◌, leb, eqb, length, replicate, if◌then◌else◌}
 use Rattle.std.specs.Int.Signed.{non_neg, lt_z}
 use Rattle.definitions.specs.Limits.{cells}
-use Rattle.definitions.specs.Lists.{if◌then◌else◌, every, any}
+use Rattle.definitions.specs.Lists.{every, any}
 
 -- 2.1: `cells` numbers, those past the order's own cells zero
 abbrev pub Vector : Type 0

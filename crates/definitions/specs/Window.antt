@@ -1,6 +1,6 @@
 -- Specification 3.9: a window over a run of draws. For each input the answer, and what every area lent for writing
 -- holds at the end. Such an area is given by its size. Assumes nothing.
-use Rattle.std.specs.Prelude.{Bool, ◌&&◌, not, List, [], ◌∷◌, ◌++◌, map, ℕ, suc, ◌+◌, ◌-◌, ◌/◌, leb, ltb, eqb, ℤ, pos, nat_abs, length, get_or, take, drop}
+use Rattle.std.specs.Prelude.{Bool, ◌&&◌, not, List, [], ◌∷◌, ◌++◌, map, ℕ, suc, ◌+◌, ◌-◌, ◌/◌, leb, ltb, eqb, ℤ, pos, nat_abs, length, get_or, take, drop, if◌then◌else◌}
 use Rattle.std.specs.Int.Signed.{non_neg, lt_z}
 use Rattle.definitions.specs.declared.Draw.{Draw}
 use Rattle.definitions.specs.declared.Fault.{Fault}
@@ -9,7 +9,7 @@ use Rattle.definitions.specs.declared.Run.{Run}
 use Rattle.definitions.specs.declared.Run.TheVariants.{Answered, Refused}
 use Rattle.definitions.specs.declared.View.{View}
 use Rattle.definitions.specs.Limits.{contingency_limit, figures_width, record_width, window_limit}
-use Rattle.definitions.specs.Lists.{if◌then◌else◌, any, concat, every}
+use Rattle.definitions.specs.Lists.{any, concat, every}
 use Rattle.definitions.specs.Vector.{Vector, padded, plus}
 use Rattle.definitions.specs.Group.{Exchange, exchanged}
 use Rattle.definitions.specs.Orbit.{signed}

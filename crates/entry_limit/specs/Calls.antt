@@ -1,11 +1,11 @@
 -- The lent calls with the entry limit as a parameter: of Completion, Refusals and Calls each definition that rests on
 -- it, with `entries` in the place of `entry_limit`. With `entry_limit` they are those definitions. Assumes nothing.
-use Rattle.std.specs.Prelude.{Bool, false, ◌||◌, not, List, [], ◌∷◌, ◌++◌, ℕ, ◌+◌, ◌/◌, leb, eqb, ℤ, pos, length, get_or}
+use Rattle.std.specs.Prelude.{Bool, false, ◌||◌, not, List, [], ◌∷◌, ◌++◌, ℕ, ◌+◌, ◌/◌, leb, eqb, ℤ, pos, length, get_or, if◌then◌else◌}
 use Rattle.definitions.specs.declared.Answer.{Answer}
 use Rattle.definitions.specs.declared.Answer.TheVariants.{Moves, Split, Passed, Refused}
 use Rattle.definitions.specs.declared.Fault.{Fault}
 use Rattle.definitions.specs.Limits.{coefficient_limit}
-use Rattle.definitions.specs.Lists.{if◌then◌else◌, until}
+use Rattle.definitions.specs.Lists.{until}
 use Rattle.definitions.specs.Vector.{Vector, within, is_zero, equal}
 use Rattle.definitions.specs.Group.{Exchange, is_exchange}
 use Rattle.definitions.specs.Orbit.{representative}

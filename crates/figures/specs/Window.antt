@@ -1,8 +1,8 @@
 -- The records of a window and the values of a chosen cell, in lent areas (Specification 3.9). Assumes nothing.
-use Rattle.std.specs.Prelude.{◌≡◌, Bool, true, false, ◌||◌, List, map, ℕ, ◌+◌, ◌-◌, ◌*◌, ◌/◌, ◌≤◌, ◌<◌, eqb, ltb, ℤ, pos, nat_abs, length, get_or}
+use Rattle.std.specs.Prelude.{◌≡◌, Bool, true, false, ◌||◌, List, map, ℕ, ◌+◌, ◌-◌, ◌*◌, ◌/◌, ◌≤◌, ◌<◌, eqb, ltb, ℤ, pos, nat_abs, length, get_or, if◌then◌else◌}
 use Rattle.definitions.specs.declared.View.{View}
 use Rattle.definitions.specs.Limits.{cells, list_limit, record_width, window_limit}
-use Rattle.definitions.specs.Lists.{if◌then◌else◌, range, select}
+use Rattle.definitions.specs.Lists.{range, select}
 use Rattle.definitions.specs.Vector.{equal_cell}
 use Rattle.definitions.specs.Window.{answer_width, chosen, different, larger, lesser}
 use Rattle.figures.specs.declared.Extremes.{Extremes}

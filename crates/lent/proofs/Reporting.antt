@@ -1,4 +1,5 @@
 -- What a call reports of an answer (Specification 1.1 and 9.4). Assumes nothing.
+use Rattle.std.specs.Prelude.{if◌then◌else◌}
 use mathlib.Core.Path.{◌≡◌, refl, sym, ap, ◌∙◌, subst}
 use mathlib.Core.Bool.{Bool, true, false}
 use mathlib.Core.List.{List, []}
@@ -10,7 +11,6 @@ use lib.IntN.{ℤ, pos}
 use lib.ListN.{length, get_or}
 use Rattle.definitions.specs.declared.Answer.{Answer}
 use Rattle.definitions.specs.declared.Answer.TheVariants.{Refused}
-use Rattle.definitions.specs.Lists.{if◌then◌else◌}
 use Rattle.definitions.specs.Lent.{filled}
 use Rattle.answers.specs.Refusal.{refusal_of}
 use Rattle.lent.specs.Ends.{Gives, Reports, counted, counts_of, if_roomy, result_of}

@@ -1,5 +1,6 @@
 -- THE WINDOW FOR C keeps its promise (Specification 1.1, 3.9, 7.4 and 11): the run with its counts, or zeros in every area.
 -- Assumes nothing.
+use Rattle.std.specs.Prelude.{if◌then◌else◌}
 use mathlib.Core.Path.{◌≡◌, refl, sym, ap, subst, ◌∙◌}
 use mathlib.Core.Bool.{Bool, true, false, true≢false}
 use mathlib.Core.List.{List, []}
@@ -15,7 +16,7 @@ use Rattle.definitions.specs.declared.Fault.TheVariants.{None, At}
 use Rattle.definitions.specs.declared.Run.{Run}
 use Rattle.definitions.specs.declared.Run.TheVariants.{Answered, Refused}
 use Rattle.definitions.specs.Limits.{record_width}
-use Rattle.definitions.specs.Lists.{concat, if◌then◌else◌}
+use Rattle.definitions.specs.Lists.{concat}
 use Rattle.definitions.specs.Vector.{padded}
 use Rattle.definitions.specs.Lent.{Order, filled}
 use Rattle.definitions.specs.Refusals.{Outcome, accepted, refused}

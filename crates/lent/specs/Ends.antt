@@ -1,5 +1,5 @@
 -- How a lent call for C ends (Specification 1.1 and 9.4): its result, and its counts in an area. Assumes nothing.
-use Rattle.std.specs.Prelude.{◌≡◌, Bool, true, List, [], ◌∷◌, ◌++◌, ℕ, ◌+◌, ◌<◌, ◌^◌, leb, ltb, ℤ, pos, length, get_or}
+use Rattle.std.specs.Prelude.{◌≡◌, Bool, true, List, [], ◌∷◌, ◌++◌, ℕ, ◌+◌, ◌<◌, ◌^◌, leb, ltb, ℤ, pos, length, get_or, if◌then◌else◌}
 use Rattle.definitions.specs.declared.Answer.{Answer}
 use Rattle.definitions.specs.declared.Answer.TheVariants.{Moves, Split, Passed, Refused}
 use Rattle.definitions.specs.declared.Ending.{Ending}
@@ -10,7 +10,6 @@ use Rattle.definitions.specs.declared.Planned.TheVariants as planned
 use Rattle.definitions.specs.declared.Run.{Run}
 use Rattle.definitions.specs.declared.Run.TheVariants as run
 use Rattle.definitions.specs.declared.Session.{Session}
-use Rattle.definitions.specs.Lists.{if◌then◌else◌}
 use Rattle.definitions.specs.Lent.{Order, filled}
 use Rattle.definitions.specs.Refusals.{refused}
 use Rattle.definitions.specs.Calls.{ListEnd, CertifiedEnd, SplitEnd, CheckEnd, list_call, list_end, split_call, split_end}

@@ -1,4 +1,5 @@
 -- How many numbers an accepted order lends (Specification 8.3). Assumes nothing.
+use Rattle.std.specs.Prelude.{if◌then◌else◌}
 use mathlib.Core.Path.{◌≡◌, ap, ◌∙◌}
 use mathlib.Core.Bool.{Bool, true, false}
 use mathlib.Core.List.{List, [], ◌∷◌, ◌++◌}
@@ -8,7 +9,7 @@ use lib.Dec.{eqb}
 use lib.ListN.{length, take, drop, length-append, length-map}
 use lib.Seq.{take_at}
 use borrow.Author.Tests.{eq-eqb, ne_eqb}
-use Rattle.definitions.specs.Lists.{if◌then◌else◌, range}
+use Rattle.definitions.specs.Lists.{range}
 use Rattle.theory.proofs.Lists.{range_length}
 use Rattle.commands.specs.declared.Command.{Command}
 use Rattle.commands.specs.Commands.{generator_code, exchange_code, image_code, row_code, coefficients_code, vector_code, code_of, operands_of}

@@ -1,4 +1,5 @@
 -- The first bytes of an order decide its scan (Specification 8.3): a scan that goes on stays below the length of the longest order. Assumes nothing.
+use Rattle.std.specs.Prelude.{if◌then◌else◌}
 use mathlib.Core.Path.{◌≡◌, refl, sym, ap, ◌∙◌}
 use mathlib.Core.Bool.{◌&&◌}
 use mathlib.Core.List.{List}
@@ -10,7 +11,6 @@ use lib.ListN.{length, get_or, take, drop}
 use lib.Seq.{take_all, length-take-le, get_or-take, get_or-drop}
 use borrow.Author.Tests.{lt-ltb, le-ltb}
 use Rattle.definitions.specs.Limits.{cells, order_limit}
-use Rattle.definitions.specs.Lists.{if◌then◌else◌}
 use Rattle.commands.specs.declared.Command.{Command}
 use Rattle.commands.specs.declared.Command.TheVariants.{Size, Generator, Exchange, Row, Coefficients, Vector, Image, End}
 use Rattle.commands.specs.declared.Reading.{Reading}

@@ -1,7 +1,6 @@
 -- Specification 8.2: which command may follow, and what is counted. Assumes nothing.
-use Rattle.std.specs.Prelude.{Bool, false, ◌&&◌, ◌||◌, ℕ, ◌+◌, ◌*◌, ltb, eqb}
+use Rattle.std.specs.Prelude.{Bool, false, ◌&&◌, ◌||◌, ℕ, ◌+◌, ◌*◌, ltb, eqb, if◌then◌else◌}
 use Rattle.definitions.specs.Limits.{generator_limit, exchange_limit, list_limit, bare_limit}
-use Rattle.definitions.specs.Lists.{if◌then◌else◌}
 use Rattle.commands.specs.declared.Command.{Command}
 use Rattle.commands.specs.declared.Command.TheVariants.{Size, Generator, Exchange, Row, Coefficients}
 use Rattle.commands.specs.declared.Command.TheVariants.{Vector, Image, End}

@@ -1,6 +1,6 @@
 -- Specification 8.1 and 8.3: the commands of an accepted order, and the numbers that it lends. Assumes nothing.
-use Rattle.std.specs.Prelude.{List, [], ◌∷◌, ◌++◌, map, ℕ, zero, suc, ◌+◌, ◌*◌, ◌≤◌, ℤ, length, drop, eqb}
-use Rattle.definitions.specs.Lists.{if◌then◌else◌, range}
+use Rattle.std.specs.Prelude.{List, [], ◌∷◌, ◌++◌, map, ℕ, zero, suc, ◌+◌, ◌*◌, ◌≤◌, ℤ, length, drop, eqb, if◌then◌else◌}
+use Rattle.definitions.specs.Lists.{range}
 use Rattle.theory.proofs.Members.{Each}
 use Rattle.commands.specs.declared.Command.{Command}
 use Rattle.commands.specs.declared.Reading.{Reading}

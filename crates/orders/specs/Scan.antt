@@ -1,7 +1,6 @@
 -- Specification 8.3: the scan of an order file. Assumes nothing.
-use Rattle.std.specs.Prelude.{◌&&◌, List, ℕ, zero, suc, ◌*◌, ◌≤◌, length, drop, leb, ltb}
+use Rattle.std.specs.Prelude.{◌&&◌, List, ℕ, zero, suc, ◌*◌, ◌≤◌, length, drop, leb, ltb, if◌then◌else◌}
 use Rattle.definitions.specs.Limits.{cells, generator_limit, exchange_limit, list_limit, bare_limit}
-use Rattle.definitions.specs.Lists.{if◌then◌else◌}
 use Rattle.commands.specs.declared.Command.{Command}
 use Rattle.commands.specs.declared.Command.TheVariants.{Size, Generator, Exchange, Row, Coefficients}
 use Rattle.commands.specs.declared.Command.TheVariants.{Vector, Image, End}

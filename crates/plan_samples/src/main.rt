@@ -5,6 +5,7 @@
 // the numbers of the group area. The file `stdout`, with which the check compares this, was not made by a run: its lines
 // were made from the table of the sample plans.
 #![tactic(auto)]
+
 ghost use Rattle.std.specs.Prelude.{◌≤◌, length};
 
 use definitions::Planned;

@@ -1,8 +1,8 @@
 -- How the search for the best plan ends, once its list is there (Specification 3.10 and 7.4). Assumes nothing.
+use Rattle.std.specs.Prelude.{if◌then◌else◌}
 use mathlib.Core.Path.{◌≡◌, refl, sym, ap, ap₂, ◌∙◌}
-use mathlib.Core.Bool.{true}
 use mathlib.Core.List.{List, [], ◌++◌}
-use Prim.Native.Nat.{ℕ, ◌+◌, ◌-◌, ◌*◌, ◌^◌, ◌≤◌, ◌<◌}
+use Prim.Native.Nat.{ℕ, ◌+◌, ◌-◌, ◌*◌, ◌≤◌}
 use native.Mathlib.Nat.{mul-le-mul}
 use native.Mathlib.Omega.{arith}
 use lib.Dec.{eqb}
@@ -13,13 +13,13 @@ use Rattle.definitions.specs.declared.Fault.TheVariants.{None, At}
 use Rattle.definitions.specs.declared.Planned.{Planned}
 use Rattle.definitions.specs.declared.Planned.TheVariants.{Cheapest, Spent}
 use Rattle.definitions.specs.declared.Terms.{Terms}
-use Rattle.definitions.specs.Limits.{bound_limit, cells, cost_limit}
-use Rattle.definitions.specs.Lists.{if◌then◌else◌, concat}
+use Rattle.definitions.specs.Limits.{cells}
+use Rattle.definitions.specs.Lists.{concat}
 use Rattle.definitions.specs.Vector.{Vector, padded}
 use Rattle.definitions.specs.Lent.{Order, filled, numbers_of}
 use Rattle.definitions.specs.Refusals.{accepted, refused}
 use Rattle.definitions.specs.Calls.{Listing, listing}
-use Rattle.definitions.specs.Plan.{PlanEnd, PlanRoom, Problem, Stage, best_gain, descended_end, descent, distance_bound, feasible, is_cheapest}
+use Rattle.definitions.specs.Plan.{PlanEnd, PlanRoom, Problem, Stage, descended_end, descent, distance_bound, is_cheapest}
 use Rattle.definitions.specs.Plan.{plan_call, plan_of, plan_reached, plan_refused, planned_at, problem_fault, reach, terms_of}
 use Rattle.theory.proofs.Accepted.{padded-length}
 use Rattle.theory.proofs.Lists.{chunks-length}

@@ -1,11 +1,10 @@
 -- What the parts of the search for the best plan find, by the definitions (Specification 3.10). Assumes nothing.
-use Rattle.std.specs.Prelude.{◌≡◌, true, List, ℕ, ◌*◌, ◌^◌, ◌≤◌, ◌<◌, eqb, ℤ, length}
+use Rattle.std.specs.Prelude.{◌≡◌, true, List, ℕ, ◌*◌, ◌^◌, ◌≤◌, ◌<◌, eqb, ℤ, length, if◌then◌else◌}
 use Rattle.definitions.specs.declared.Fault.TheVariants.{None}
 use Rattle.definitions.specs.declared.Planned.{Planned}
 use Rattle.definitions.specs.declared.Planned.TheVariants.{Cheapest, Spent}
 use Rattle.definitions.specs.declared.Terms.{Terms}
 use Rattle.definitions.specs.Limits.{group_limit, list_limit}
-use Rattle.definitions.specs.Lists.{if◌then◌else◌}
 use Rattle.definitions.specs.Refusals.{accepted}
 use Rattle.definitions.specs.Calls.{Listing}
 use Rattle.definitions.specs.Plan.{PlanEnd, PlanRoom, Problem, descended_end, feasible, plan_of, problem_fault, reach}

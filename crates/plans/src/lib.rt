@@ -1,5 +1,6 @@
 // The best plan within a budget (Specification 3.10): the whole List, and then best steps by its images.
 #![tactic(auto)]
+
 ghost use Rattle.std.specs.Prelude.{◌≡◌, ◌*◌, ◌≤◌, length};
 ghost use Rattle.definitions.specs.Limits.{budget_limit, group_limit, list_limit};
 ghost use Rattle.definitions.specs.Plan.{plan_refused};

@@ -1,9 +1,8 @@
 -- Specification 1.2, 1.3 and 9.4: what the services answer to order files. Assumes nothing.
-use Rattle.std.specs.Prelude.{List, [], ℕ, ◌*◌, leb, ℤ, pos, length}
+use Rattle.std.specs.Prelude.{List, [], ℕ, ◌*◌, leb, ℤ, pos, length, if◌then◌else◌}
 use Rattle.definitions.specs.declared.Answer.{Answer}
 use Rattle.definitions.specs.declared.Answer.TheVariants.{Moves, Split as SplitAnswer, Passed, Refused}
 use Rattle.definitions.specs.Limits.{group_limit, list_limit, lent_pieces, piece_width}
-use Rattle.definitions.specs.Lists.{if◌then◌else◌}
 use Rattle.definitions.specs.Group.{Exchange}
 use Rattle.definitions.specs.Lent.{Order, chunks, filled, order_of, table_of}
 use Rattle.definitions.specs.Calls.{ListEnd, SplitEnd, CheckEnd, list_call, split_call, check_call}

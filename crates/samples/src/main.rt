@@ -7,6 +7,7 @@
 // sessions: the text of order 0, that of order 1, for one with sums left UNFINISHED and the sums tried, and the numbers
 // of the group area. The lines of both in `stdout` were made by tests/outside.py.
 #![tactic(auto)]
+
 ghost use Rattle.std.specs.Prelude.{◌≡◌, ◌*◌, ◌≤◌, ◌<◌, length};
 ghost use Rattle.definitions.specs.Limits.{cells, generator_limit, session_rows};
 ghost use Rattle.answers.specs.Answers.{line_count};

@@ -1,5 +1,6 @@
 -- What the tests under size, generators and exchanges say of an order that meets none (Specification 7.2 and 7.3): above all, that every
 -- member of the group keeps the lattice. Assumes nothing.
+use Rattle.std.specs.Prelude.{if◌then◌else◌}
 use mathlib.Core.Path.{◌≡◌, refl, sym, ◌∙◌, subst}
 use mathlib.Core.Bool.{Bool, true, false, not, ◌&&◌, ◌||◌}
 use mathlib.Core.List.Memᴰ
@@ -12,7 +13,7 @@ use lib.ListN.{length, get_or, take, drop, replicate, length-append, length-repl
 use native.Mathlib.Omega.{arith}
 use Rattle.definitions.specs.declared.Fault.TheVariants.{None}
 use Rattle.definitions.specs.Limits.{cells, entry_limit, group_limit, image_limit}
-use Rattle.definitions.specs.Lists.{any, if◌then◌else◌}
+use Rattle.definitions.specs.Lists.{any}
 use Rattle.definitions.specs.Vector.{Vector, equal, is_member, is_zero, negative, padded, plus, zero_vector}
 use Rattle.definitions.specs.Lattice.{InLattice, combination}
 use Rattle.definitions.specs.Group.{Exchange, exchanged, is_exchange}

@@ -1,5 +1,6 @@
 -- BARE ORDERS: an order that sends a basis and shows its images by coefficients has the list of the order with all images sent as generators,
 -- where both are accepted. Assumes nothing.
+use Rattle.std.specs.Prelude.{if◌then◌else◌}
 use mathlib.Core.Path.{◌≡◌, refl, sym, subst, ◌∙◌, ap}
 use mathlib.Core.Bool.{Bool, true, false, ◌||◌}
 use mathlib.Core.List.{List, [], ◌∷◌, ◌++◌, map, Memᴰ}
@@ -10,7 +11,7 @@ use lib.ListN.{length, get_or, length-map, get_or-append}
 use lib.Seq.{get_or-append-add}
 use lib.IntN.{pos, negsuc}
 use Rattle.definitions.specs.declared.Fault.TheVariants.{None}
-use Rattle.definitions.specs.Lists.{any, range, if◌then◌else◌}
+use Rattle.definitions.specs.Lists.{any, range}
 use Rattle.definitions.specs.Vector.{Vector, equal, equal_cell, is_member, negative, padded}
 use Rattle.definitions.specs.Group.{Exchange, InGroup, applied, composed, exchanged, identity, unit}
 use Rattle.definitions.specs.Orbit.{IsImage, signed}

@@ -1,4 +1,5 @@
 -- What a refusal of a lent call may report (Specification 7.2): the last number, and how great its place can be. Assumes nothing.
+use Rattle.std.specs.Prelude.{if◌then◌else◌}
 use mathlib.Core.Path.{◌≡◌, refl, sym, subst, ap₂, ◌∙◌}
 use mathlib.Core.Bool.{Bool, true, false}
 use mathlib.Core.Logic.{◌⊎◌, inl, inr}
@@ -12,7 +13,6 @@ use Rattle.definitions.specs.declared.Answer.TheVariants.{Refused}
 use Rattle.definitions.specs.declared.Fault.{Fault}
 use Rattle.definitions.specs.declared.Fault.TheVariants.{None, At}
 use Rattle.definitions.specs.Limits.{exchange_limit, generator_limit, group_limit, list_limit}
-use Rattle.definitions.specs.Lists.{if◌then◌else◌}
 use Rattle.definitions.specs.Vector.{Vector, padded}
 use Rattle.definitions.specs.Group.{Exchange, exchanged}
 use Rattle.definitions.specs.Completion.{Completion, completed, running, stopped, sum_count}

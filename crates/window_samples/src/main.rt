@@ -4,6 +4,7 @@
 // ANSWERS, a line for each row of the answers area, and END; and GROUP with the numbers of the group area. The file
 // `stdout`, with which the check compares this, was not made by a run: its lines were made by tests/outside.py.
 #![tactic(auto)]
+
 ghost use Rattle.std.specs.Prelude.{◌≤◌, length};
 ghost use Rattle.definitions.specs.Limits.{cells};
 

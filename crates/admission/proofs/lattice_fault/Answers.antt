@@ -1,4 +1,5 @@
 -- `lattice_fault` meets its contract: 23 where images are sent, else 11. Assumes nothing.
+use Rattle.std.specs.Prelude.{if◌then◌else◌}
 use mathlib.Core.Path.{◌≡◌, sym, ◌∙◌, ap}
 use mathlib.Core.Bool.{Bool, true, false, not}
 use native.Mathlib.Omega.{arith}
@@ -6,7 +7,6 @@ use borrow.Author.Tests.{eq-eqb, ne_eqb}
 use lib.ListN.{length}
 use Rattle.definitions.specs.declared.Fault.{Fault}
 use Rattle.definitions.specs.Limits.{entry_limit}
-use Rattle.definitions.specs.Lists.{if◌then◌else◌}
 use Rattle.definitions.specs.Lent.{Order, exchanges_of, generators_of, is_bare, order_of}
 use Rattle.definitions.specs.Refusals.{images_fault, lattice_fault, leaving_fault}
 use Rattle.theory.proofs.Accepted.{Sendable, Sized, cells-none, numbers-none}

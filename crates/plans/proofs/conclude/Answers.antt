@@ -1,6 +1,5 @@
 -- `conclude` meets its contract. Assumes nothing.
 use mathlib.Core.Path.{refl}
-use borrow.Author.Rules.{rules}
 use borrow.Author.Tests.{eq-eqb, ne_eqb}
 use Rattle.plans.proofs.conclude.Goals as goal
 

@@ -1,15 +1,11 @@
 -- `descend_listed` meets its contract: the descent, and its plan in the plan area. Assumes nothing.
 use mathlib.Core.Path.{◌≡◌, refl, sym, ap, subst, ◌∙◌}
-use mathlib.Core.List.{List}
-use Prim.Native.Nat.{ℕ, ◌+◌, ◌≤◌}
+use Prim.Native.Nat.{◌≤◌}
 use native.Mathlib.Omega.{arith}
-use borrow.Author.Rules.{rules}
-use lib.IntN.{ℤ, pos}
-use lib.ListN.{length, take}
+use lib.ListN.{length}
 use Rattle.definitions.specs.declared.Terms.{Terms}
 use Rattle.definitions.specs.Limits.{cells}
 use Rattle.definitions.specs.Vector.{Vector, padded}
-use Rattle.definitions.specs.Lent.{filled}
 use Rattle.definitions.specs.Plan.{PlanRoom, Problem, terms_of}
 use Rattle.plan_theory.proofs.Problems.{Sound, problem-sound}
 use Rattle.moves.proofs.Splits.{vector-read}
@@ -18,14 +14,7 @@ use Rattle.descents.specs.Steps.{DescendsTo, Planning}
 use Rattle.plans.specs.Found.{Measured, planned_in}
 use Rattle.plans.proofs.Endings.{descended-ends, descent-measured, sound-planning}
 use Rattle.plans.proofs.descend_listed.Goals as goal
-use Rattle.plans.proofs.descend_listed.Goals.{After-improve-end, Start}
-use Rattle.plans.proofs.descend_listed.Lts
-use Rattle.plans.proofs.descend_listed.Reads
-use Rattle.plans.proofs.descend_listed.Tie
-
--- what is known at the places that the lemmas below are about
-abbrev After-load-first : Type 0
-After-load-first = Lts.After-load3 Tie.the-claims Reads.Pre Reads.Post Tie.handed_clauses
+use Rattle.plans.proofs.descend_listed.Goals.{After-improve-end, After-load-first, Start}
 
 module _ (s : Start) where
   abbrev problem : Problem
@@ -47,7 +36,7 @@ module _ (s : Start) where
 -- the three vectors, as they were read
 module _ (l : After-load-first) where
   abbrev begun : Start
-  begun = l.before.before.before.before.before.before
+  begun = (goal.at.After-load-first l).Start
 
   abbrev read : Terms
   read = record { upper = l.load-upper.result; costs = l.load-costs.result }
@@ -65,12 +54,12 @@ module _ (l : After-load-first) where
 -- the descent from them
 module _ (d : After-improve-end) where
   abbrev loads : After-load-first
-  loads = d.before.before.before
+  loads = (goal.at.After-improve-end d).After-load-first
 
   abbrev extent : Extent
   extent = record { shape = record { n = loads.args.n; g = loads.args.found.members }; k = loads.args.found.rows }
 
-  descends : DescendsTo (terms_of (problem loads.before.before.before.before.before.before)) extent loads.args.group.now loads.args.list.now loads.args.budget
+  descends : DescendsTo (terms_of (problem (begun loads))) extent loads.args.group.now loads.args.list.now loads.args.budget
       (padded loads.args.start.now) d.improve-end.result
   descends =
       let a = loads.args in
@@ -78,47 +67,38 @@ module _ (d : After-improve-end) where
       (subst (λ (v : Vector). DescendsTo (read loads) extent a.group.now a.list.now a.budget v d.improve-end.result) (first-is loads) d.improve-end.ensures.descended)
 
 pub load-upper-requires : goal.load-upper-requires
-load-upper-requires c = record { row = (narrow c.before.before.before.before, omega (arith, (sound c.before.before.before.before).sized.upper)) }
+load-upper-requires c =
+    let s = (goal.at.load-upper-requires c).Start in
+    record { row = (narrow s, omega (arith, (sound s).sized.upper)) }
 
 pub load-costs-requires : goal.load-costs-requires
-load-costs-requires c = record { row = (narrow c.before.before.before.before.before, omega (arith, (sound c.before.before.before.before.before).sized.costs)) }
+load-costs-requires c =
+    let s = (goal.at.load-costs-requires c).Start in
+    record { row = (narrow s, omega (arith, (sound s).sized.costs)) }
 
 pub load-first-requires : goal.load-first-requires
-load-first-requires c = record { row = (narrow c.before.before.before.before.before.before, omega (arith, (sound c.before.before.before.before.before.before).sized.start)) }
+load-first-requires c =
+    let s = (goal.at.load-first-requires c).Start in
+    record { row = (narrow s, omega (arith, (sound s).sized.start)) }
 
 pub improve-end-requires : goal.improve-end-requires
 improve-end-requires c =
+    let p = (goal.at.improve-end-requires c).After-load-first in
+    let s = (goal.at.improve-end-requires c).Start in
     let held = c.requires.held in
-    let terms = subst (λ (t : Terms). Planning t c.load-first.result) (sym (read_is c.before.before)) (subst (Planning (terms_of (problem c.before.before.before.before.before.before.before.before))) (sym (first-is c.before.before)) (planning c.before.before.before.before.before.before.before.before)) in record { listed = record { is_table = held.table; area = held.area; few = held.few; small = held.small }; planning = terms; few = (sound c.before.before.before.before.before.before.before.before).sized.few; room = c.requires.room }
+    let terms = subst (λ (t : Terms). Planning t c.load-first.result) (sym (read_is p)) (subst (Planning (terms_of (problem s))) (sym (first-is p)) (planning s)) in record { listed = record { is_table = held.table; area = held.area; few = held.few; small = held.small }; planning = terms; few = (sound s).sized.few; room = c.requires.room }
 
 pub store-requires : goal.store-requires
-store-requires c = record { row = (narrow c.before.before.before.before.before.before.before.before.before.before.before.before.before.before.before.before, omega (arith, (sound c.before.before.before.before.before.before.before.before.before.before.before.before.before.before.before.before).sized.room)) }
+store-requires c =
+    let s = (goal.at.store-requires c).Start in
+    record { row = (narrow s, omega (arith, (sound s).sized.room)) }
 
 pub conclude-requires : goal.conclude-requires
-conclude-requires c = record { measured = subst (λ (t : Terms). Measured t c.improve-end.result) (sym (read_is c.before.before.before.before.before.before.before.before.before.before.before.before)) (descent-measured (descends c.before.before.before.before.before.before.before.before.before) (planning c.before.before.before.before.before.before.before.before.before.before.before.before.before.before.before.before.before.before)) }
-
--- TODO no goal same-length
--- same_length : tie.Need-same-length
--- same_length c = search rules
-
--- TODO no goal same-length-2
--- same-length-2 : tie.Need-same-length-2
--- same-length-2 c = search rules
-
--- TODO no goal same-length-3
--- same-length-3 : tie.Need-same-length-3
--- same-length-3 c = search rules
-
--- TODO no goal same-length-4
--- same-length-4 : tie.Need-same-length-4
--- same-length-4 c = search rules
-
--- TODO no goal same-length-5
--- same-length-5 : tie.Need-same-length-5
--- same-length-5 c = search rules
+conclude-requires c = record { measured = subst (λ (t : Terms). Measured t c.improve-end.result) (sym (read_is (goal.at.conclude-requires c).After-load-first)) (descent-measured (descends (goal.at.conclude-requires c).After-improve-end) (planning (goal.at.conclude-requires c).Start)) }
 
 pub returns : goal.returns
 returns c =
+    let s = (goal.at.returns c).Start in
     let a = c.args in
-    let same = c.conclude.ensures.told ∙ ap (λ (t : Terms). planned_in t a.found c.improve-end.result) (read_is c.before.before.before.before.before.before.before.before.before.before.before.before.before) in
-    let E = descended-ends a.n a.found (problem c.before.before.before.before.before.before.before.before.before.before.before.before.before.before.before.before.before.before.before) a.list.now a.group.now (descends c.before.before.before.before.before.before.before.before.before.before) (areas c.before.before.before.before.before.before.before.before.before.before.before.before.before.before.before.before.before.before.before) c.requires.held refl refl (planning c.before.before.before.before.before.before.before.before.before.before.before.before.before.before.before.before.before.before.before) a.plan.now refl (sound c.before.before.before.before.before.before.before.before.before.before.before.before.before.before.before.before.before.before.before).sized.room c.store.ensures.stored in record { ended = record { answer_is = same ∙ E.answer_is; list_holds = E.list_holds; group_holds = E.group_holds; plan_holds = E.plan_holds } }
+    let same = c.conclude.ensures.told ∙ ap (λ (t : Terms). planned_in t a.found c.improve-end.result) (read_is (goal.at.returns c).After-load-first) in
+    let E = descended-ends a.n a.found (problem s) a.list.now a.group.now (descends (goal.at.returns c).After-improve-end) (areas s) c.requires.held refl refl (planning s) a.plan.now refl (sound s).sized.room c.store.ensures.stored in record { ended = record { answer_is = same ∙ E.answer_is; list_holds = E.list_holds; group_holds = E.group_holds; plan_holds = E.plan_holds } }

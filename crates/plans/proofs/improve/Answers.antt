@@ -1,9 +1,6 @@
 -- `improve` meets its contract: marks for all images, their prices, and the descent. Assumes nothing.
-use Prim.Native.Nat.{ℕ, ◌*◌, ◌≤◌}
 use native.Mathlib.Nat.{mul-le-mul}
 use native.Mathlib.Omega.{arith}
-use borrow.Author.Rules.{rules}
-use Rattle.definitions.specs.Limits.{group_limit, list_limit}
 use Rattle.plans.proofs.improve.Goals as goal
 
 pub mark_rows-requires : goal.mark_rows-requires
@@ -11,11 +8,3 @@ mark_rows-requires c = let listed = c.requires.listed in record { shaped = liste
 
 pub descend-requires : goal.descend-requires
 descend-requires c = record { planning = c.requires.planning; few = c.requires.few; marked = c.mark_rows.ensures.marked; priced = c.price_images.ensures.priced }
-
--- TODO no goal same-length
--- same_length : tie.Need-same-length
--- same_length c = search rules
-
--- TODO no goal same-length-2
--- same-length-2 : tie.Need-same-length-2
--- same-length-2 c = search rules

@@ -1,11 +1,9 @@
 -- `plan` meets its contract: the List, and then the tests and the descent. Assumes nothing.
-use mathlib.Core.Path.{◌≡◌, refl, ap, ap₂, ◌∙◌}
-use mathlib.Core.List.{List, []}
+use mathlib.Core.Path.{◌≡◌, refl, ap₂, ◌∙◌}
 use Prim.Native.Nat.{ℕ}
-use lib.IntN.{pos}
 use lib.ListN.{length}
 use Rattle.definitions.specs.declared.Answer.TheVariants.{Moves}
-use Rattle.definitions.specs.Lent.{Order, filled, order_of}
+use Rattle.definitions.specs.Lent.{Order, order_of}
 use Rattle.definitions.specs.Refusals.{accepted}
 use Rattle.definitions.specs.Calls.{Listing}
 use Rattle.definitions.specs.Plan.{PlanRoom, Problem, plan_of, plan_refused}
@@ -14,23 +12,11 @@ use Rattle.moves.specs.Found.{listing_in}
 use Rattle.moves.specs.Promise.{ListPromise}
 use Rattle.moves.proofs.Ends.{finds-is, found-refused, promise-accepted}
 use Rattle.moves.proofs.Splits.{Numbered, listed, listed-held, listed_same}
-use Rattle.plans.specs.Found.{PlanEnds}
 use Rattle.plans.proofs.Endings.{call-listed, call-unlisted, ends_same}
 use Rattle.plans.proofs.Promised.{plan-promise}
 use native.Mathlib.Omega.{arith}
-use borrow.Author.Rules.{rules}
 use Rattle.plans.proofs.plan.Goals as goal
-use Rattle.plans.proofs.plan.Goals.{Start}
-use Rattle.plans.proofs.plan.Lts
-use Rattle.plans.proofs.plan.Reads
-use Rattle.plans.proofs.plan.Tie
-
--- what is known at the places that the lemmas below are about
-abbrev After-make_list_with-found : Type 0
-After-make_list_with-found = Lts.After-make_list_with Tie.the-claims Reads.Pre Reads.Post Tie.handed_clauses
-
-abbrev In-Found-2 : Type 0
-In-Found-2 = Lts.After-found2 Tie.the-claims Reads.Pre Reads.Post Tie.handed_clauses
+use Rattle.plans.proofs.plan.Goals.{After-make_list_with-found, In-Found, Start}
 
 -- what was sent, and the sizes of the areas
 module _ (s : Start) where
@@ -46,74 +32,58 @@ module _ (s : Start) where
 -- the areas that the List leaves
 module _ (f : After-make_list_with-found) where
   abbrev start : Start
-  start = f.before.before.before.before.before.before.before
+  start = (goal.at.After-make_list_with-found f).Start
 
   long : length f.make_list_with-found.new.list ≡ length start.args.list.now
-  long = f.make_list_with-found.kept.1.1.1.1.0
+  long = f.make_list_with-found.auto.list
 
   wide : length f.make_list_with-found.new.group ≡ length start.args.group.now
-  wide = f.make_list_with-found.kept.1.1.1.1.1.0
+  wide = f.make_list_with-found.auto.group
 
 -- the List found something
-module _ (k : In-Found-2) where
+module _ (k : In-Found) where
   abbrev f : After-make_list_with-found
-  f = k.before.before.before.before.before.before.before
+  f = (goal.at.In-Found k).After-make_list_with-found
 
   abbrev numbers : Numbers
-  numbers = record { rows = k.found-in-Found-1.given.0.0; members = k.found-in-Found-1.given.0.1.0; stored = k.found-in-Found-1.given.0.1.1.0; sums = k.found-in-Found-1.given.0.1.1.1.0 }
+  numbers = record { rows = k.in-Found.rows; members = k.in-Found.members; stored = k.in-Found.stored; sums = k.in-Found.sums }
 
-  promised : ListPromise (sent f.before.before.before.before.before.before.before) (length f.args.list.now) (length f.args.group.now) (Moves numbers.rows numbers.members numbers.stored numbers.sums)
+  promised : ListPromise (sent (start f)) (length f.args.list.now) (length f.args.group.now) (Moves numbers.rows numbers.members numbers.stored numbers.sums)
       f.make_list_with-found.new.list f.make_list_with-found.new.group
-  promised = promise-accepted (sent f.before.before.before.before.before.before.before) _ _ _ _ _ _ (long f) (wide f) (finds-is f.make_list_with-found.ensures.found k.found-in-Found-1.given.1)
+  promised = promise-accepted (sent (start f)) _ _ _ _ _ _ (long f) (wide f) (finds-is f.make_list_with-found.ensures.found k.in-Found.is)
 
   found : Numbered promised (long f) (wide f) numbers
   found = listed promised (long f) (wide f) numbers refl
 
--- TODO no goal enum-known-found-2
--- enum-known-found-2 : tie.Need-enum-known-found-2
--- enum-known-found-2 c = search rules
-
 pub test_listed-requires : goal.test_listed-requires
-test_listed-requires c = record { held = listed-held (promised c.before.before.before.before.before.before.before) (long c.before.before.before.before.before.before.before.before.before.before.before.before.before.before) (wide c.before.before.before.before.before.before.before.before.before.before.before.before.before.before) (found c.before.before.before.before.before.before.before); room = omega (arith, c.make_list_with-found.auto.marks) }
-
--- TODO no goal same-length
--- same_length : tie.Need-same-length
--- same_length c = search rules
-
--- TODO no goal same-length-2
--- same-length-2 : tie.Need-same-length-2
--- same-length-2 c = search rules
-
--- TODO no goal same-length-3
--- same-length-3 : tie.Need-same-length-3
--- same-length-3 c = search rules
+test_listed-requires c =
+    let p = (goal.at.test_listed-requires c).In-Found in
+    let q = (goal.at.test_listed-requires c).After-make_list_with-found in
+    record { held = listed-held (promised p) (long q) (wide q) (found p); room = omega (arith, c.make_list_with-found.auto.marks) }
 
 pub returns-in-Refused : goal.returns-in-Refused
 returns-in-Refused c =
+    let p = (goal.at.returns-in-Refused c).After-make_list_with-found in
+    let s = (goal.at.returns-in-Refused c).Start in
     let x = c.refuse in
-    let due = ap₂ (λ (l m : ℕ). plan_refused (record { list = l; group = m; plan = length c.args.plan.now }) c.found-1.given.0.0 c.found-1.given.0.1.0) (long c.before.before.before.before.before.before.before.before.before.before.before.before.before.before.before.before.before) (wide c.before.before.before.before.before.before.before.before.before.before.before.before.before.before.before.before.before)
-    ∙ call-unlisted (sent c.before.before.before.before.before.before.before.before.before.before.before.before.before.before.before.before.before.before.before.before.before.before.before.before) (problem c.before.before.before.before.before.before.before.before.before.before.before.before.before.before.before.before.before.before.before.before.before.before.before.before) (areas c.before.before.before.before.before.before.before.before.before.before.before.before.before.before.before.before.before.before.before.before.before.before.before.before) (found-refused (sent c.before.before.before.before.before.before.before.before.before.before.before.before.before.before.before.before.before.before.before.before.before.before.before.before) _ _ (finds-is c.make_list_with-found.ensures.found c.found-1.given.1)) in
-    let E = ends_same due x.ensures.refused in record { kept = plan-promise (sent c.before.before.before.before.before.before.before.before.before.before.before.before.before.before.before.before.before.before.before.before.before.before.before.before) (problem c.before.before.before.before.before.before.before.before.before.before.before.before.before.before.before.before.before.before.before.before.before.before.before.before) (areas c.before.before.before.before.before.before.before.before.before.before.before.before.before.before.before.before.before.before.before.before.before.before.before.before) E.answer_is E.list_holds E.group_holds E.plan_holds
-    (x.auto.list ∙ long c.before.before.before.before.before.before.before.before.before.before.before.before.before.before.before.before.before) (x.auto.group ∙ wide c.before.before.before.before.before.before.before.before.before.before.before.before.before.before.before.before.before) x.auto.plan }
-
--- TODO no goal same-length-4
--- same-length-4 : tie.Need-same-length-4
--- same-length-4 c = search rules
-
--- TODO no goal same-length-5
--- same-length-5 : tie.Need-same-length-5
--- same-length-5 c = search rules
-
--- TODO no goal same-length-6
--- same-length-6 : tie.Need-same-length-6
--- same-length-6 c = search rules
+    let due = ap₂ (λ (l m : ℕ). plan_refused (record { list = l; group = m; plan = length c.args.plan.now }) c.in-Refused.number c.in-Refused.place) (long p) (wide p)
+    ∙ call-unlisted (sent s) (problem s) (areas s) (found-refused (sent s) _ _ (finds-is c.make_list_with-found.ensures.found c.in-Refused.is)) in
+    let E = ends_same due x.ensures.refused in record {
+      kept = plan-promise (sent s) (problem s) (areas s) E.answer_is E.list_holds E.group_holds E.plan_holds
+          (x.auto.list ∙ long p) (x.auto.group ∙ wide p) x.auto.plan;
+    }
 
 pub returns-in-Found : goal.returns-in-Found
 returns-in-Found c =
+    let p = (goal.at.returns-in-Found c).In-Found in
+    let s = (goal.at.returns-in-Found c).Start in
+    let q = (goal.at.returns-in-Found c).After-make_list_with-found in
     let x = c.test_listed in
-    let at : Listing = listing_in c.args.n (numbers c.before.before.before.before.before.before.before.before.before.before.before.before.before.before) c.make_list_with-found.new.list c.make_list_with-found.new.group in
+    let at : Listing = listing_in c.args.n (numbers p) c.make_list_with-found.new.list c.make_list_with-found.new.group in
     let due =
-    ap₂ (λ (l m : ℕ). plan_of c.args.n (problem c.before.before.before.before.before.before.before.before.before.before.before.before.before.before.before.before.before.before.before.before.before.before.before.before.before.before.before.before) (record { list = l; group = m; plan = length c.args.plan.now }) (accepted at)) (long c.before.before.before.before.before.before.before.before.before.before.before.before.before.before.before.before.before.before.before.before.before) (wide c.before.before.before.before.before.before.before.before.before.before.before.before.before.before.before.before.before.before.before.before.before)
-    ∙ call-listed (sent c.before.before.before.before.before.before.before.before.before.before.before.before.before.before.before.before.before.before.before.before.before.before.before.before.before.before.before.before) (problem c.before.before.before.before.before.before.before.before.before.before.before.before.before.before.before.before.before.before.before.before.before.before.before.before.before.before.before.before) (areas c.before.before.before.before.before.before.before.before.before.before.before.before.before.before.before.before.before.before.before.before.before.before.before.before.before.before.before.before) (listed_same (promised c.before.before.before.before.before.before.before.before.before.before.before.before.before.before) (long c.before.before.before.before.before.before.before.before.before.before.before.before.before.before.before.before.before.before.before.before.before) (wide c.before.before.before.before.before.before.before.before.before.before.before.before.before.before.before.before.before.before.before.before.before) (found c.before.before.before.before.before.before.before.before.before.before.before.before.before.before)) in
-    let E = ends_same due x.ensures.ended in record { kept = plan-promise (sent c.before.before.before.before.before.before.before.before.before.before.before.before.before.before.before.before.before.before.before.before.before.before.before.before.before.before.before.before) (problem c.before.before.before.before.before.before.before.before.before.before.before.before.before.before.before.before.before.before.before.before.before.before.before.before.before.before.before.before) (areas c.before.before.before.before.before.before.before.before.before.before.before.before.before.before.before.before.before.before.before.before.before.before.before.before.before.before.before.before) E.answer_is E.list_holds E.group_holds E.plan_holds
-    (x.auto.list ∙ long c.before.before.before.before.before.before.before.before.before.before.before.before.before.before.before.before.before.before.before.before.before) (x.auto.group ∙ wide c.before.before.before.before.before.before.before.before.before.before.before.before.before.before.before.before.before.before.before.before.before) x.auto.plan }
+    ap₂ (λ (l m : ℕ). plan_of c.args.n (problem s) (record { list = l; group = m; plan = length c.args.plan.now }) (accepted at)) (long q) (wide q)
+    ∙ call-listed (sent s) (problem s) (areas s) (listed_same (promised p) (long q) (wide q) (found p)) in
+    let E = ends_same due x.ensures.ended in record {
+      kept = plan-promise (sent s) (problem s) (areas s) E.answer_is E.list_holds E.group_holds E.plan_holds
+          (x.auto.list ∙ long q) (x.auto.group ∙ wide q) x.auto.plan;
+    }

@@ -2,7 +2,6 @@
 use lib.IntN.{pos}
 use Rattle.definitions.specs.Limits.{cells, group_limit, list_limit}
 use Rattle.samples.proofs.Areas.{part-long}
-use borrow.Author.Rules.{rules}
 use Rattle.samples.proofs.list.Goals as goal
 
 pub slice_bounds-list_in-end : goal.slice_bounds-list_in-end

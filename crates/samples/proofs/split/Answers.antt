@@ -2,7 +2,6 @@
 use lib.IntN.{pos}
 use Rattle.definitions.specs.Limits.{cells, group_limit, list_limit}
 use Rattle.samples.proofs.Areas.{part-long}
-use borrow.Author.Rules.{rules}
 use Rattle.samples.proofs.split.Goals as goal
 
 pub slice_bounds-split-end : goal.slice_bounds-split-end
