@@ -1,24 +1,27 @@
 # The static library, its header and the three programs, proved and then built into a folder.
 FOLDER = build
+PROGRAMS = list_moves split_moves check_moves
 
 .PHONY: all library test clean
 
 all: library
-	rt check list_moves split_moves check_moves
-	cp target/bin/list_moves target/bin/split_moves target/bin/check_moves $(FOLDER)/
+	for program in $(PROGRAMS); do \
+		(cd crates/$$program && rt run < stdin > /dev/null) || exit 1; \
+		cp crates/$$program/out/$$program $(FOLDER)/ || exit 1; \
+	done
 
 # The C calls and the lent calls, each crate an object of one library.
 library:
-	rt staticlib services
-	rt staticlib lent
-	mkdir -p $(FOLDER)
+	cd crates/services_c && rt lib
+	cd crates/lent && rt lib
+	mkdir -p $(FOLDER)/objects
 	rm -f $(FOLDER)/libsukoreta.a
-	cd target/staticlib && ar x libservices.a && ar x liblent.a
-	ar rcs $(FOLDER)/libsukoreta.a target/staticlib/services.o target/staticlib/lent.o
+	cd $(FOLDER)/objects && ar x $(CURDIR)/crates/services_c/out/libservices_c.a && ar x $(CURDIR)/crates/lent/out/liblent.a
+	ar rcs $(FOLDER)/libsukoreta.a $(FOLDER)/objects/services_c.o $(FOLDER)/objects/lent.o
 	cp include/sukoreta.h $(FOLDER)/
 
 test:
 	.ci/run
 
 clean:
-	rm -rf target $(FOLDER)
+	rm -rf crates/*/out $(FOLDER)

@@ -1,5 +1,6 @@
 // The lent calls for C (Specification 1.1): numbers and slices, and an area for the counts of the answer.
 #![tactic(auto)]
+
 ghost use Rattle.std.specs.Prelude.{◌≡◌, true, ◌≤◌, ◌<◌, ◌^◌, pos, length, get_or, take};
 ghost use Rattle.definitions.specs.Lent.{filled};
 ghost use Rattle.vectors.specs.Areas.{sent_order};

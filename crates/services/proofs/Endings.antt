@@ -1,21 +1,17 @@
 -- How a C call ends and what a program prints, by what was written into the answer area (Specification 9.4). Assumes
 -- nothing.
 use mathlib.Core.Path.{◌≡◌, refl, sym, ◌∙◌, ap, ap₂}
-use mathlib.Core.List.{List, [], ◌∷◌}
-use mathlib.Core.Logic.{⊎_elim}
+use mathlib.Core.List.{List}
 use Prim.Native.Nat.{ℕ, ◌-◌, ◌≤◌, ◌<◌}
 use native.Mathlib.Omega.{arith}
 use lib.IntN.{ℤ, pos}
 use lib.ListN.{length, take, replicate}
 use lib.Seq.{length-take-le, take-append_seam}
 use borrow.Author.Tests.{le-leb, lt-leb}
-use types.Run.{OneOf}
-use denote.Enum.Declared.{tag_of}
 use Rattle.definitions.specs.declared.Answer.{Answer}
 use Rattle.definitions.specs.declared.Answer.TheVariants.{Moves, Split, Passed, Refused}
 use Rattle.definitions.specs.Limits.{order_limit}
 use Rattle.definitions.specs.Lent.{filled}
-use Rattle.definitions.specs.contracts.Answer.{the_type}
 use Rattle.theory.proofs.Areas.{filled-nothing}
 use Rattle.orders.specs.declared.Service.{Service}
 use Rattle.answers.specs.Answers.{answer_text, rows_text}
@@ -46,14 +42,13 @@ ends_same e E =
     { results = E.results ∙ ap (λ (x : CallEnd). x.result) e; area_holds = E.area_holds ∙ ap (λ (x : CallEnd). x.area) e }
 
 -- any answer but a refusal ends with its text
-pub ends-text : (size : ℕ) (answer : Answer) (text : List ℕ) → OneOf (0 ∷ 1 ∷ 2 ∷ []) (tag_of the_type answer)
-    → text_end size text ≡ end_by size answer text
+pub ends-text : (size : ℕ) (answer : Answer) (text : List ℕ)
+    → ((number place : ℕ) → answer ≡ Refused number place → ⊥) → text_end size text ≡ end_by size answer text
 unfolding end_by
 ends-text size (Moves rows members stored sums) text h = refl
 ends-text size (Split pieces rows members stored sums) text h = refl
 ends-text size (Passed rows sums) text h = refl
-ends-text size (Refused number place) text h =
-    absurd (⊎_elim (λ e. omega arith) (λ r. ⊎_elim (λ e. omega arith) (λ e. omega arith) r) h)
+ends-text size (Refused number place) text h = absurd (h number place refl)
 
 -- an area of zeros after a refusal
 pub ends-refused : (size number place : ℕ) {result : ℤ} {area : List ℕ} → result ≡ refusal_of number place

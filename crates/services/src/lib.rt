@@ -1,5 +1,6 @@
-// The services on order files (Specification 1.2 and 1.3): C calls, and what the programs print.
+// The services on order files (Specification 1.2 and 1.3): the calls on bytes, and what the programs print.
 #![tactic(auto)]
+
 ghost use Rattle.std.specs.Prelude.{◌≡◌, ◌*◌, ◌≤◌, ◌<◌, ◌^◌, length};
 ghost use Rattle.definitions.specs.Limits.{cells, list_limit, piece_width};
 ghost use Rattle.orders.specs.Scan.{scan_of};
@@ -300,8 +301,7 @@ fn print(area: &mut [u8; ANSWER_BYTES], answer: Answer, numbers: &[i32], width: 
 }
 
 // List on an order file, for C (Specification 1.2).
-#[unsafe(no_mangle)]
-pub extern "C" fn sukoreta_list(order: &[u8], answer: &mut [u8]) -> i64
+pub fn sukoreta_list(order: &[u8], answer: &mut [u8]) -> i64
     ensures kept { ListCalled order.now (length answer.old) result answer.new }
 {
     let mut list = [0i32; LIST_NUMBERS];
@@ -312,8 +312,7 @@ pub extern "C" fn sukoreta_list(order: &[u8], answer: &mut [u8]) -> i64
 }
 
 // Split on an order file, for C (Specification 1.2).
-#[unsafe(no_mangle)]
-pub extern "C" fn sukoreta_split(order: &[u8], answer: &mut [u8]) -> i64
+pub fn sukoreta_split(order: &[u8], answer: &mut [u8]) -> i64
     ensures kept { SplitCalled order.now (length answer.old) result answer.new }
 {
     let mut pieces = [0i32; PIECE_NUMBERS];
@@ -322,8 +321,7 @@ pub extern "C" fn sukoreta_split(order: &[u8], answer: &mut [u8]) -> i64
 }
 
 // Check on an order file, for C (Specification 1.2).
-#[unsafe(no_mangle)]
-pub extern "C" fn sukoreta_check(order: &[u8], answer: &mut [u8]) -> i64
+pub fn sukoreta_check(order: &[u8], answer: &mut [u8]) -> i64
     ensures kept { CheckCalled order.now (length answer.old) result answer.new }
 {
     let none = [0i32; 1];
@@ -332,8 +330,7 @@ pub extern "C" fn sukoreta_check(order: &[u8], answer: &mut [u8]) -> i64
 }
 
 // The bytes of the longest text, for C: an answer area of so many has room for any (Specification 9.4).
-#[unsafe(no_mangle)]
-pub extern "C" fn sukoreta_answer_limit() -> usize
+pub fn sukoreta_answer_limit() -> usize
     ensures longest { result ≡ text_limit }
 {
     answers::lengths::text_limit()

@@ -3,7 +3,6 @@ use mathlib.Core.Path.{sym}
 use native.Mathlib.Omega.{arith}
 use lib.ListN.{take, length-take, get_or-eq_default}
 use lib.Seq.{get_or-take}
-use borrow.Author.Rules.{rules}
 use Rattle.lent.proofs.count_at.Goals as goal
 
 pub returns-then-i-k : goal.returns-then-i-k

@@ -5,7 +5,6 @@ use native.Mathlib.Omega.{arith}
 use lib.IntN.{pos}
 use Rattle.vectors.proofs.Negatives.{small}
 use Rattle.lent.proofs.Sessions.{finished-most}
-use borrow.Author.Rules.{rules}
 use Rattle.lent.proofs.finished.Goals as goal
 use Rattle.lent.proofs.finished.Goals.{After-finished_one-2}
 
@@ -23,5 +22,7 @@ overflow_cast-result c = omega (arith, few c)
 
 pub returns : goal.returns
 returns c =
-    record { counted = small _ (omega (arith, few c))
-    ∙ ap₂ (λ (a b : ℕ). pos (a + b)) c.finished_one.ensures.told c.finished_one-2.ensures.told }
+    record {
+      counted = small _ (omega (arith, few c))
+          ∙ ap₂ (λ (a b : ℕ). pos (a + b)) c.finished_one.ensures.told c.finished_one-2.ensures.told;
+    }

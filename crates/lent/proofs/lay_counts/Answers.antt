@@ -1,8 +1,7 @@
 -- `lay_counts` meets its contract. The loop's invariant: i numbers are laid. Assumes nothing.
-use Prim.Native.Nat.{◌-◌}
 use native.Mathlib.Omega.{arith}
-use lib.ListN.{length, take, length-take}
-use Rattle.lent.proofs.Laying.{Laying, laying-start, laying-turn, laying-end}
+use lib.ListN.{take, length-take}
+use Rattle.lent.proofs.Laying.{laying-start, laying-turn, laying-end}
 use Rattle.lent.proofs.lay_counts.Goals as goal
 
 pub loop-i-init : goal.loop-i-init
@@ -28,12 +27,10 @@ loop-i-preserved c =
     let l = c.loop-i in
     laying-turn _ _ l.area l.i c.count_at.result l.invariant c.count_at.ensures.count (omega arith)
 
--- TODO no goal same-length
--- same_length : tie.Need-same-length invariant-loop decreases-loop
--- same_length c = c.before.loop.invariant.same
-
 pub returns : goal.returns
 returns c =
     let l = c.loop-i in
-    let first = take c.args.k c.args.numbers.now in record { laid = laying-end first c.args.area.now l.area l.i l.invariant (omega arith)
-    (omega (arith, c.requires.room, length-take c.args.k c.args.numbers.now)) }
+    let first = take c.args.k c.args.numbers.now in record {
+      laid = laying-end first c.args.area.now l.area l.i l.invariant (omega arith)
+          (omega (arith, c.requires.room, length-take c.args.k c.args.numbers.now));
+    }

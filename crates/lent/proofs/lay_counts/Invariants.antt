@@ -1,8 +1,7 @@
 -- `lay_counts` meets its contract. The loop's invariant: i numbers are laid. Assumes nothing.
 use Prim.Native.Nat.{◌-◌}
-use native.Mathlib.Omega.{arith}
-use lib.ListN.{length, take, length-take}
-use Rattle.lent.proofs.Laying.{Laying, laying-start, laying-turn, laying-end}
+use lib.ListN.{length, take}
+use Rattle.lent.proofs.Laying.{Laying}
 use Rattle.lent.proofs.lay_counts.Given as goal
 
 abbrev pub invariant-loop-i : goal.invariant-loop-i

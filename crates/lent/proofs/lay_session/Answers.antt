@@ -3,15 +3,12 @@ use mathlib.Core.Path.{◌∙◌, ap}
 use lib.ListN.{length}
 use Rattle.definitions.specs.Lent.{filled}
 use Rattle.lent.proofs.Sessions.{ten-all}
-use borrow.Author.Rules.{rules}
 use Rattle.lent.proofs.lay_session.Goals as goal
-
--- TODO no goal same-length
--- same_length : tie.Need-same-length
--- same_length c = search rules
 
 pub returns : goal.returns
 returns c =
-    record { laid = c.lay_counts.ensures.laid
-    ∙ ap (filled 0 (length c.args.area.now))
-    (ten-all c.args.answer c.ending_counts-a.ensures.counted c.ending_counts-b.ensures.counted) }
+    record {
+      laid = c.lay_counts.ensures.laid
+          ∙ ap (filled 0 (length c.args.area.now))
+          (ten-all c.args.answer c.ending_counts-a.ensures.counted c.ending_counts-b.ensures.counted);
+    }

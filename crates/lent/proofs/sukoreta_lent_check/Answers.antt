@@ -3,52 +3,38 @@ use mathlib.Core.Path.{refl, sym, ◌∙◌, subst⁻¹}
 use lib.ListN.{length}
 use mir.Syntax.{w64}
 use mir.ValLaws.{to_z-of_z}
-use Rattle.definitions.specs.Lent.{Order, order_of}
+use Rattle.definitions.specs.Lent.{order_of}
 use Rattle.lent.specs.Ends.{Small}
 use Rattle.lent.proofs.Reporting.{reports-result}
 use Rattle.lent.proofs.Calls.{check-cleared, check-kept, check-sized, check-small, zeroed}
-use borrow.Author.Rules.{rules}
 use Rattle.lent.proofs.sukoreta_lent_check.Goals as goal
-use Rattle.lent.proofs.sukoreta_lent_check.Goals.{Start}
-
--- the order
-abbrev order : Start → Order
-order s = order_of s.args.n s.args.generators.now s.args.exchanges.now s.args.images.now
 
 pub report-result-requires : goal.report-result-requires
 report-result-requires c =
-    record { small = subst⁻¹ Small c.check-answer.ensures.kept.answers
-    (check-small (order c.before.before.before.before.before.before.before.before.before) c.args.rows.now c.args.coefficients.now (length c.args.group.now)) }
-
--- TODO no goal same-length
--- same_length : tie.Need-same-length
--- same_length c = search rules
-
--- TODO no goal same-length-2
--- same-length-2 : tie.Need-same-length-2
--- same-length-2 c = search rules
+    let a = c.args in record {
+      small = subst⁻¹ Small c.check-answer.ensures.kept.answers
+          (check-small (order_of a.n a.generators.now a.exchanges.now a.images.now) a.rows.now a.coefficients.now (length a.group.now));
+    }
 
 pub returns-then-result-lt0 : goal.returns-then-result-lt0
 returns-then-result-lt0 c =
+    let a = c.args in
     let l = c.check-answer in
     let y = c.clear_bytes in
     let P = check-sized (sym (y.auto.area ∙ l.auto.group)) l.ensures.kept in
     let k = c.report-result in
-    let R = reports-result (sym k.auto.area) (to_z-of_z w64 k.result (record { sfits = k.type_inv })) k.ensures.reported in record { kept = check-cleared (order c.before.before.before.before.before.before.before.before.before.before.before.before.before.before.before.before.before) c.args.rows.now c.args.coefficients.now y.new.area k.new.area P R
-    c.if-result-lt0.true (zeroed 0 y.ensures.cleared y.auto.area) }
-
--- TODO no goal same-length-3
--- same-length-3 : tie.Need-same-length-3
--- same-length-3 c = search rules
-
--- TODO no goal same-length-4
--- same-length-4 : tie.Need-same-length-4
--- same-length-4 c = search rules
+    let R = reports-result (sym k.auto.area) (to_z-of_z w64 k.result (record { sfits = k.type_inv })) k.ensures.reported in record {
+      kept = check-cleared (order_of a.n a.generators.now a.exchanges.now a.images.now) a.rows.now a.coefficients.now y.new.area k.new.area P R
+          c.if-result-lt0.true (zeroed 0 y.ensures.cleared y.auto.area);
+    }
 
 pub returns : goal.returns
 returns c =
+    let a = c.args in
     let l = c.check-answer in
     let P = check-sized (sym l.auto.group) l.ensures.kept in
     let k = c.report-result in
-    let R = reports-result (sym k.auto.area) (to_z-of_z w64 k.result (record { sfits = k.type_inv })) k.ensures.reported in record { kept = check-kept (order c.before.before.before.before.before.before.before.before.before.before.before.before.before) c.args.rows.now c.args.coefficients.now l.new.group k.new.area
-    P R c.if-result-lt0.false refl }
+    let R = reports-result (sym k.auto.area) (to_z-of_z w64 k.result (record { sfits = k.type_inv })) k.ensures.reported in record {
+      kept = check-kept (order_of a.n a.generators.now a.exchanges.now a.images.now) a.rows.now a.coefficients.now l.new.group k.new.area
+          P R c.if-result-lt0.false refl;
+    }

@@ -4,62 +4,38 @@ use lib.IntN.{pos}
 use lib.ListN.{length}
 use mir.Syntax.{w64}
 use mir.ValLaws.{to_z-of_z}
-use Rattle.definitions.specs.Lent.{Order, order_of}
+use Rattle.definitions.specs.Lent.{order_of}
 use Rattle.lent.specs.Ends.{Small}
 use Rattle.lent.proofs.Reporting.{reports-result}
 use Rattle.lent.proofs.Calls.{list-cleared, list-kept, list-sized, list-small, zeroed}
-use borrow.Author.Rules.{rules}
 use Rattle.lent.proofs.sukoreta_lent_list.Goals as goal
-use Rattle.lent.proofs.sukoreta_lent_list.Goals.{Start}
-
--- the order
-abbrev order : Start → Order
-order s = order_of s.args.n s.args.generators.now s.args.exchanges.now s.args.images.now
 
 pub report-result-requires : goal.report-result-requires
 report-result-requires c =
-    record { small = subst⁻¹ Small c.list-answer.ensures.kept.answers
-    (list-small (order c.before.before.before.before.before.before.before.before.before.before.before) (length c.args.list.now) (length c.args.group.now)) }
-
--- TODO no goal same-length
--- same_length : tie.Need-same-length
--- same_length c = search rules
-
--- TODO no goal same-length-2
--- same-length-2 : tie.Need-same-length-2
--- same-length-2 c = search rules
-
--- TODO no goal same-length-3
--- same-length-3 : tie.Need-same-length-3
--- same-length-3 c = search rules
+    let a = c.args in record {
+      small = subst⁻¹ Small c.list-answer.ensures.kept.answers
+          (list-small (order_of a.n a.generators.now a.exchanges.now a.images.now) (length a.list.now) (length a.group.now));
+    }
 
 pub returns-then-result-lt0 : goal.returns-then-result-lt0
 returns-then-result-lt0 c =
+    let a = c.args in
     let l = c.list-answer in
     let x = c.clear in
     let y = c.clear_bytes in
     let P =
     list-sized (sym (x.auto.area ∙ l.auto.list)) (sym (y.auto.area ∙ l.auto.group)) l.ensures.kept in
     let k = c.report-result in
-    let R = reports-result (sym k.auto.area) (to_z-of_z w64 k.result (record { sfits = k.type_inv })) k.ensures.reported in record { kept = list-cleared (order c.before.before.before.before.before.before.before.before.before.before.before.before.before.before.before.before.before.before.before.before.before.before) x.new.area y.new.area k.new.area P R
-    c.if-result-lt0.true
-    (zeroed (pos 0) x.ensures.cleared x.auto.area) (zeroed 0 y.ensures.cleared y.auto.area) }
-
--- TODO no goal same-length-4
--- same-length-4 : tie.Need-same-length-4
--- same-length-4 c = search rules
-
--- TODO no goal same-length-5
--- same-length-5 : tie.Need-same-length-5
--- same-length-5 c = search rules
-
--- TODO no goal same-length-6
--- same-length-6 : tie.Need-same-length-6
--- same-length-6 c = search rules
+    let R = reports-result (sym k.auto.area) (to_z-of_z w64 k.result (record { sfits = k.type_inv })) k.ensures.reported in record {
+      kept = list-cleared (order_of a.n a.generators.now a.exchanges.now a.images.now) x.new.area y.new.area k.new.area P R
+          c.if-result-lt0.true
+          (zeroed (pos 0) x.ensures.cleared x.auto.area) (zeroed 0 y.ensures.cleared y.auto.area);
+    }
 
 pub returns : goal.returns
 returns c =
+    let a = c.args in
     let l = c.list-answer in
     let P = list-sized (sym l.auto.list) (sym l.auto.group) l.ensures.kept in
     let k = c.report-result in
-    let R = reports-result (sym k.auto.area) (to_z-of_z w64 k.result (record { sfits = k.type_inv })) k.ensures.reported in record { kept = list-kept (order c.before.before.before.before.before.before.before.before.before.before.before.before.before.before.before) l.new.list l.new.group k.new.area P R c.if-result-lt0.false refl refl }
+    let R = reports-result (sym k.auto.area) (to_z-of_z w64 k.result (record { sfits = k.type_inv })) k.ensures.reported in record { kept = list-kept (order_of a.n a.generators.now a.exchanges.now a.images.now) l.new.list l.new.group k.new.area P R c.if-result-lt0.false refl refl }

@@ -4,42 +4,24 @@ use lib.IntN.{pos}
 use lib.ListN.{length}
 use mir.Syntax.{w64}
 use mir.ValLaws.{to_z-of_z}
-use Rattle.definitions.specs.Lent.{Order, order_of}
+use Rattle.definitions.specs.Lent.{order_of}
 use Rattle.lent.specs.Ends.{Small}
 use Rattle.lent.proofs.Reporting.{reports-result}
 use Rattle.lent.proofs.Calls.{split-cleared, split-kept, split-sized, split-small, zeroed}
 use borrow.Author.Rules.{rules}
 use Rattle.lent.proofs.sukoreta_lent_split.Goals as goal
-use Rattle.lent.proofs.sukoreta_lent_split.Goals.{Start}
-
--- the order
-abbrev order : Start → Order
-order s = order_of s.args.n s.args.generators.now s.args.exchanges.now s.args.images.now
 
 pub report-result-requires : goal.report-result-requires
 report-result-requires c =
-    record { small = subst⁻¹ Small c.split-answer.ensures.kept.answers
-    (split-small (order c.before.before.before.before.before.before.before.before.before.before.before.before.before) c.args.vector.now (length c.args.list.now) (length c.args.group.now)
-    (length c.args.pieces.now) (search rules)) }
-
--- TODO no goal same-length
--- same_length : tie.Need-same-length
--- same_length c = search rules
-
--- TODO no goal same-length-2
--- same-length-2 : tie.Need-same-length-2
--- same-length-2 c = search rules
-
--- TODO no goal same-length-3
--- same-length-3 : tie.Need-same-length-3
--- same-length-3 c = search rules
-
--- TODO no goal same-length-4
--- same-length-4 : tie.Need-same-length-4
--- same-length-4 c = search rules
+    let a = c.args in record {
+      small = subst⁻¹ Small c.split-answer.ensures.kept.answers
+          (split-small (order_of a.n a.generators.now a.exchanges.now a.images.now) a.vector.now (length a.list.now) (length a.group.now)
+          (length a.pieces.now) (search rules));
+    }
 
 pub returns-then-result-lt0 : goal.returns-then-result-lt0
 returns-then-result-lt0 c =
+    let a = c.args in
     let l = c.split-answer in
     let x = c.clear in
     let y = c.clear_bytes in
@@ -48,34 +30,23 @@ returns-then-result-lt0 c =
     split-sized (sym (x.auto.area ∙ l.auto.basis)) (sym (y.auto.area ∙ l.auto.group))
     (sym (z.auto.area ∙ l.auto.pieces)) l.ensures.kept in
     let k = c.report-result in
-    let R = reports-result (sym k.auto.area) (to_z-of_z w64 k.result (record { sfits = k.type_inv })) k.ensures.reported in record { kept = split-cleared (order c.before.before.before.before.before.before.before.before.before.before.before.before.before.before.before.before.before.before.before.before.before.before.before.before.before.before.before) c.args.vector.now x.new.area y.new.area z.new.area k.new.area P R
-    c.if-result-lt0.true
-    (zeroed (pos 0) x.ensures.cleared x.auto.area) (zeroed 0 y.ensures.cleared y.auto.area)
-    (zeroed (pos 0) z.ensures.cleared z.auto.area) }
-
--- TODO no goal same-length-5
--- same-length-5 : tie.Need-same-length-5
--- same-length-5 c = search rules
-
--- TODO no goal same-length-6
--- same-length-6 : tie.Need-same-length-6
--- same-length-6 c = search rules
-
--- TODO no goal same-length-7
--- same-length-7 : tie.Need-same-length-7
--- same-length-7 c = search rules
-
--- TODO no goal same-length-8
--- same-length-8 : tie.Need-same-length-8
--- same-length-8 c = search rules
+    let R = reports-result (sym k.auto.area) (to_z-of_z w64 k.result (record { sfits = k.type_inv })) k.ensures.reported in record {
+      kept = split-cleared (order_of a.n a.generators.now a.exchanges.now a.images.now) a.vector.now x.new.area y.new.area z.new.area k.new.area P R
+          c.if-result-lt0.true
+          (zeroed (pos 0) x.ensures.cleared x.auto.area) (zeroed 0 y.ensures.cleared y.auto.area)
+          (zeroed (pos 0) z.ensures.cleared z.auto.area);
+    }
 
 pub returns : goal.returns
 returns c =
+    let a = c.args in
     let l = c.split-answer in
     let P =
     split-sized (sym l.auto.basis) (sym l.auto.group) (sym l.auto.pieces)
     l.ensures.kept in
     let k = c.report-result in
-    let R = reports-result (sym k.auto.area) (to_z-of_z w64 k.result (record { sfits = k.type_inv })) k.ensures.reported in record { kept = split-kept (order c.before.before.before.before.before.before.before.before.before.before.before.before.before.before.before.before.before) c.args.vector.now l.new.basis l.new.group
-    l.new.pieces k.new.area
-    P R c.if-result-lt0.false refl refl refl }
+    let R = reports-result (sym k.auto.area) (to_z-of_z w64 k.result (record { sfits = k.type_inv })) k.ensures.reported in record {
+      kept = split-kept (order_of a.n a.generators.now a.exchanges.now a.images.now) a.vector.now l.new.basis l.new.group
+          l.new.pieces k.new.area
+          P R c.if-result-lt0.false refl refl refl;
+    }

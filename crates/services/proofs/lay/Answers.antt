@@ -5,23 +5,18 @@ use mir.Syntax.{w64}
 use mir.ValLaws.{to_z-of_z}
 use Rattle.vectors.proofs.Negatives.{small}
 use Rattle.services.proofs.Endings.{ends_as, ends-laid, ends-long}
-use borrow.Author.Rules.{rules}
 use Rattle.services.proofs.lay.Goals as goal
-
--- TODO no goal same-length
--- same_length : tie.Need-same-length
--- same_length c = search rules
 
 pub returns-then-size-end : goal.returns-then-size-end
 returns-then-size-end c =
-    record { ends = ends-long c.write_answer-end.ensures.laid c.if-size-end.true
-    (to_z-of_z w64 c.refusal.result (record { sfits = c.refusal.type_inv }) ∙ c.refusal.ensures.refused) }
-
--- TODO no goal same-length-2
--- same-length-2 : tie.Need-same-length-2
--- same-length-2 c = search rules
+    record {
+      ends = ends-long c.write_answer-end.ensures.laid c.if-size-end.true
+          (to_z-of_z w64 c.refusal.result (record { sfits = c.refusal.type_inv }) ∙ c.refusal.ensures.refused);
+    }
 
 pub returns : goal.returns
 returns c =
-    record { ends = ends_as (small c.write_answer-end.result (omega arith))
-    (ends-laid c.write_answer-end.ensures.laid c.if-size-end.false) }
+    record {
+      ends = ends_as (small c.write_answer-end.result (omega arith))
+          (ends-laid c.write_answer-end.ensures.laid c.if-size-end.false);
+    }

@@ -1,31 +1,34 @@
 -- `list_order` meets its contract: the parts of the areas that are lent hold what the file says. Assumes nothing.
-use mathlib.Core.Path.{sym}
-use Prim.Native.Nat.{◌*◌, ◌≤◌}
+use mathlib.Core.Path.{◌≡◌, sym}
+use mathlib.Core.List.{List}
+use Prim.Native.Nat.{ℕ, ◌*◌, ◌≤◌}
 use native.Mathlib.Omega.{arith}
+use lib.IntN.{ℤ}
 use lib.ListN.{length}
 use lib.Seq.{length-take-le}
-use Rattle.definitions.specs.Limits.{list_limit}
+use Rattle.definitions.specs.Limits.{cells, list_limit}
 use Rattle.orders.specs.declared.Service.TheVariants.{List as ListService}
-use Rattle.orders.specs.Scan.{Few}
+use Rattle.orders.specs.declared.Counts.{Counts}
+use Rattle.orders.specs.declared.Scanned.TheVariants.{Counted}
+use Rattle.orders.specs.Scan.{Few, scan_of}
 use Rattle.orders.proofs.Commands.{accepted}
 use Rattle.services.proofs.Serving.{order-read, list-serves}
-use borrow.Author.Rules.{rules}
 use Rattle.services.proofs.list_order.Goals as goal
-use Rattle.services.proofs.list_order.Goals.{Start}
 
--- the file is accepted
-module _ (s : Start) where
-  limited : Few s.args.c
-  limited = (accepted ListService s.args.order.now s.args.c s.requires.accepted).readable.limited.few
+-- the counts of the file
+few : (file : List ℕ) {k : Counts} → scan_of ListService file ≡ Counted k → Few k
+few file {k} e = (accepted ListService file k e).readable.limited.few
 
-  list-fits : list_limit * s.args.c.cells ≤ length s.args.list.now
-  list-fits = omega (arith, s.requires.room, limited.cells-ok)
+-- its list fits in an area for any
+fits : (file : List ℕ) {k : Counts} (list : List ℤ) → scan_of ListService file ≡ Counted k
+    → list_limit * cells ≤ length list → list_limit * k.cells ≤ length list
+fits file list e room = omega (arith, (few file e).cells-ok, room)
 
 pub overflow_mul-l : goal.overflow_mul-l
-overflow_mul-l c = omega (arith, (limited c.before.before.before.before.before.before).cells-ok)
+overflow_mul-l c = omega (arith, (few _ c.requires.accepted).cells-ok)
 
 pub overflow_mul-g : goal.overflow_mul-g
-overflow_mul-g c = omega (arith, (limited c.before.before.before.before.before.before).cells-ok)
+overflow_mul-g c = omega (arith, (few _ c.requires.accepted).cells-ok)
 
 pub slice_bounds-list-end : goal.slice_bounds-list-end
 slice_bounds-list-end c = sym (length-take-le _ _ c.requires.read.generators_fit)
@@ -37,26 +40,24 @@ pub slice_bounds-list-end-3 : goal.slice_bounds-list-end-3
 slice_bounds-list-end-3 c = sym (length-take-le _ _ c.requires.read.images_fit)
 
 pub slice_bounds-list-end-4 : goal.slice_bounds-list-end-4
-slice_bounds-list-end-4 c = list-fits c.before.before.before.before.before.before
+slice_bounds-list-end-4 c = fits _ _ c.requires.accepted c.requires.room
 
 pub slice_bounds-list-end-5 : goal.slice_bounds-list-end-5
-slice_bounds-list-end-5 c = sym (length-take-le _ _ (list-fits c.before.before.before.before.before.before.before))
+slice_bounds-list-end-5 c = sym (length-take-le _ _ (fits _ _ c.requires.accepted c.requires.room))
 
 pub slice_bounds-group-end : goal.slice_bounds-group-end
-slice_bounds-group-end c = omega (arith, (limited c.before.before.before.before.before.before.before).cells-ok)
+slice_bounds-group-end c = omega (arith, (few _ c.requires.accepted).cells-ok)
 
 pub slice_bounds-list-end-6 : goal.slice_bounds-list-end-6
 slice_bounds-list-end-6 c =
     sym
-    (length-take-le _ _ (omega (arith, (limited c.before.before.before.before.before.before.before.before).cells-ok)))
-
--- TODO no goal same-length
--- same_length : tie.Need-same-length
--- same_length c = search rules
+    (length-take-le _ _ (omega (arith, (few _ c.requires.accepted).cells-ok)))
 
 pub returns : goal.returns
 returns c =
-    let a = c.args in record { served = list-serves a.order.now a.c _ (limited c.before.before.before.before.before.before.before.before.before.before.before).cells-ok c.list.ensures.kept
-    (order-read a.order.now a.c c.requires.read)
-    (length-take-le _ _ (list-fits c.before.before.before.before.before.before.before.before.before.before.before))
-    (length-take-le _ _ (omega (arith, (limited c.before.before.before.before.before.before.before.before.before.before.before).cells-ok))) }
+    let a = c.args in record {
+      served = list-serves a.order.now a.c _ (few _ c.requires.accepted).cells-ok c.list.ensures.kept
+          (order-read a.order.now a.c c.requires.read)
+          (length-take-le _ _ (fits _ _ c.requires.accepted c.requires.room))
+          (length-take-le _ _ (omega (arith, (few _ c.requires.accepted).cells-ok)));
+    }

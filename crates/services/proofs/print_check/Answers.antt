@@ -18,6 +18,9 @@ pub returns : goal.returns
 returns c =
     let bytes = take c.args.n c.args.buffer.now in
     let k = c.print in
-    let S = check-serves bytes 0 (pos 0 ∷ []) c.serve_check-found.ensures.served in record { counted = k.ensures.1.counted; printed = λ input e.
+    let S = check-serves bytes 0 (pos 0 ∷ []) c.serve_check-found.ensures.served in record {
+      counted = k.ensures.laid.counted;
+      printed = λ input e.
           check-printed input
-          (served-input CheckService bytes S (length c.args.buffer.now) (search rules) k.ensures.0 k.ensures.1 input e) }
+          (served-input CheckService bytes S (length c.args.buffer.now) (search rules) k.ensures.roomy k.ensures.laid input e);
+    }

@@ -15,6 +15,9 @@ pub returns : goal.returns
 returns c =
     let bytes = take c.args.n c.args.buffer.now in
     let k = c.print in
-    let S = c.serve_list-reply.ensures.served in record { counted = k.ensures.1.counted; printed = λ input e.
+    let S = c.serve_list-reply.ensures.served in record {
+      counted = k.ensures.laid.counted;
+      printed = λ input e.
           list-printed input
-          (served-input ListService bytes S (length c.args.buffer.now) (search rules) k.ensures.0 k.ensures.1 input e) }
+          (served-input ListService bytes S (length c.args.buffer.now) (search rules) k.ensures.roomy k.ensures.laid input e);
+    }

@@ -5,15 +5,12 @@ use mir.Syntax.{w64}
 use mir.ValLaws.{to_z-of_z}
 use Rattle.theory.proofs.Areas.{filled-nothing}
 use Rattle.services.proofs.Endings.{ends-refused}
-use borrow.Author.Rules.{rules}
 use Rattle.services.proofs.refuse.Goals as goal
-
--- TODO no goal same-length
--- same_length : tie.Need-same-length
--- same_length c = search rules
 
 pub returns : goal.returns
 returns c =
-    let a = c.args in record { ends = ends-refused (length a.area.now) a.number a.place
-    (to_z-of_z w64 c.refusal.result (record { sfits = c.refusal.type_inv }) ∙ c.refusal.ensures.refused)
-    (c.clear_bytes.ensures.cleared ∙ filled-nothing 0 _) }
+    let a = c.args in record {
+      ends = ends-refused (length a.area.now) a.number a.place
+          (to_z-of_z w64 c.refusal.result (record { sfits = c.refusal.type_inv }) ∙ c.refusal.ensures.refused)
+          (c.clear_bytes.ensures.cleared ∙ filled-nothing 0 _);
+    }

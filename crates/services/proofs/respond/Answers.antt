@@ -1,7 +1,5 @@
 -- `respond` meets its contract: a refusal, or a text. Assumes nothing.
 use mathlib.Core.Path.{sym, ap, subst}
-use mathlib.Core.List.{List}
-use Prim.Native.Nat.{ℕ}
 use native.Mathlib.Omega.{arith}
 use lib.ListN.{length}
 use mir.Syntax.{w64}
@@ -11,33 +9,24 @@ use Rattle.answers.specs.Answers.{rows_text}
 use Rattle.promises.specs.Services.{end_by}
 use Rattle.services.specs.Answered.{Small}
 use Rattle.services.proofs.Endings.{ends_as, ends_same, ends-text}
-use borrow.Author.Rules.{rules}
 use Rattle.services.proofs.respond.Goals as goal
 use Rattle.services.proofs.respond.Goals.{Start}
 
--- the text of the answer
-abbrev text : Start → List ℕ
-text s = rows_text s.args.answer s.args.width s.args.numbers.now
-
--- TODO no goal same-length
--- same_length : tie.Need-same-length
--- same_length c = search rules
-
 pub returns-in_default : goal.returns-in_default
 returns-in_default c =
-    record { ends = ends_same (ends-text (length c.args.area.now) c.args.answer (text c.before.before.before.before.before.before.before) c.in_default.keys2)
-    (ends_as (to_z-of_z w64 c.lay.result (record { sfits = c.lay.type_inv })) c.lay.ensures.ends) }
+    record {
+      ends = ends_same (ends-text (length c.args.area.now) c.args.answer (rows_text c.args.answer c.args.width c.args.numbers.now) c.in_default.not-Refused)
+          (ends_as (to_z-of_z w64 c.lay.result (record { sfits = c.lay.type_inv })) c.lay.ensures.ends);
+    }
 
 pub refuse-requires : goal.refuse-requires
-refuse-requires c = let s = subst Small c.answer-1.given.1 c.requires.small in record { fits = omega (arith, s.0, s.1) }
-
--- TODO no goal same-length-2
--- same-length-2 : tie.Need-same-length-2
--- same-length-2 c = search rules
+refuse-requires c = let s = subst Small c.in-Refused.is c.requires.small in record { fits = omega (arith, s.0, s.1) }
 
 pub returns : goal.returns
 unfolding end_by
 returns c =
-    record { ends = ends_same
-    (ap (λ (a : Answer). end_by (length c.args.area.now) a (text c.before.before.before.before.before.before.before.before.before)) (sym c.answer-1.given.1))
-    (ends_as (to_z-of_z w64 c.refuse.result (record { sfits = c.refuse.type_inv })) c.refuse.ensures.ends) }
+    record {
+      ends = ends_same
+          (ap (λ (a : Answer). end_by (length c.args.area.now) a (rows_text c.args.answer c.args.width c.args.numbers.now)) (sym c.in-Refused.is))
+          (ends_as (to_z-of_z w64 c.refuse.result (record { sfits = c.refuse.type_inv })) c.refuse.ensures.ends);
+    }

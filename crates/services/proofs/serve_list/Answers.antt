@@ -2,27 +2,22 @@
 use mathlib.Core.Path.{sym, ◌∙◌}
 use Rattle.orders.specs.declared.Service.TheVariants.{List as ListService}
 use Rattle.services.proofs.Serving.{accepted-serves, refused-serves}
-use borrow.Author.Rules.{rules}
 use Rattle.services.proofs.serve_list.Goals as goal
 
--- TODO no goal enum-known-found-2
--- enum-known-found-2 : tie.Need-enum-known-found-2
--- enum-known-found-2 c = search rules
-
 pub list_file-answer-requires : goal.list_file-answer-requires
-list_file-answer-requires c = record { accepted = sym c.scan-found.ensures.scanned ∙ c.found-in-Counted-1.given.1; room = c.requires.room }
+list_file-answer-requires c = record { accepted = sym c.scan-found.ensures.scanned ∙ c.in-Counted.is; room = c.requires.room }
 
 pub returns-in-Refused : goal.returns-in-Refused
 returns-in-Refused c =
-    record { served = refused-serves ListService c.args.order.now _ _
-    (sym c.scan-found.ensures.scanned ∙ c.found-1.given.1) }
-
--- TODO no goal same-length
--- same_length : tie.Need-same-length
--- same_length c = search rules
+    record {
+      served = refused-serves ListService c.args.order.now _ _
+          (sym c.scan-found.ensures.scanned ∙ c.in-Refused.is);
+    }
 
 pub returns-in-Counted : goal.returns-in-Counted
 returns-in-Counted c =
-    record { served = accepted-serves ListService c.args.order.now
-    (sym c.scan-found.ensures.scanned ∙ c.found-in-Counted-1.given.1)
-    c.list_file-answer.ensures.served }
+    record {
+      served = accepted-serves ListService c.args.order.now
+          (sym c.scan-found.ensures.scanned ∙ c.in-Counted.is)
+          c.list_file-answer.ensures.served;
+    }

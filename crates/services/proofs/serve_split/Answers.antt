@@ -2,27 +2,22 @@
 use mathlib.Core.Path.{sym, ◌∙◌}
 use Rattle.orders.specs.declared.Service.TheVariants.{Split as SplitService}
 use Rattle.services.proofs.Serving.{accepted-serves, refused-serves}
-use borrow.Author.Rules.{rules}
 use Rattle.services.proofs.serve_split.Goals as goal
 
--- TODO no goal enum-known-found-2
--- enum-known-found-2 : tie.Need-enum-known-found-2
--- enum-known-found-2 c = search rules
-
 pub split_file-requires : goal.split_file-requires
-split_file-requires c = record { accepted = sym c.scan-found.ensures.scanned ∙ c.found-in-Counted-1.given.1; room = c.requires.room }
+split_file-requires c = record { accepted = sym c.scan-found.ensures.scanned ∙ c.in-Counted.is; room = c.requires.room }
 
 pub returns-in-Refused : goal.returns-in-Refused
 returns-in-Refused c =
-    record { served = refused-serves SplitService c.args.order.now _ _
-    (sym c.scan-found.ensures.scanned ∙ c.found-1.given.1) }
-
--- TODO no goal same-length
--- same_length : tie.Need-same-length
--- same_length c = search rules
+    record {
+      served = refused-serves SplitService c.args.order.now _ _
+          (sym c.scan-found.ensures.scanned ∙ c.in-Refused.is);
+    }
 
 pub returns-in-Counted : goal.returns-in-Counted
 returns-in-Counted c =
-    record { served = accepted-serves SplitService c.args.order.now
-    (sym c.scan-found.ensures.scanned ∙ c.found-in-Counted-1.given.1)
-    c.split_file.ensures.served }
+    record {
+      served = accepted-serves SplitService c.args.order.now
+          (sym c.scan-found.ensures.scanned ∙ c.in-Counted.is)
+          c.split_file.ensures.served;
+    }

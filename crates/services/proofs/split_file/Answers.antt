@@ -6,7 +6,3 @@ use Rattle.services.proofs.split_file.Goals as goal
 
 pub read_order-requires : goal.read_order-requires
 read_order-requires c = record { fits = order-fits SplitService c.args.order.now c.args.c c.requires.accepted (search rules) (search rules) (search rules) }
-
--- TODO no goal same-length
--- same_length : tie.Need-same-length
--- same_length c = search rules

@@ -5,15 +5,10 @@ use mir.ValLaws.{to_z-of_z}
 use Rattle.orders.specs.declared.Service.TheVariants.{Split as SplitService}
 use Rattle.promises.proofs.Calls.{split-called}
 use Rattle.services.proofs.Endings.{ends_as, served-ends, served-returns}
-use borrow.Author.Rules.{rules}
 use Rattle.services.proofs.sukoreta_split.Goals as goal
 
 pub respond-requires : goal.respond-requires
 respond-requires c = let S = c.serve_split-found.ensures.served in record { rows = S.room; small = served-returns SplitService c.args.order.now S }
-
--- TODO no goal same-length
--- same_length : tie.Need-same-length
--- same_length c = search rules
 
 pub returns : goal.returns
 returns c =
