@@ -24,4 +24,4 @@ test:
 	.ci/run
 
 clean:
-	rm -rf crates/*/out $(FOLDER)
+	rm -rf crates/*/out target $(FOLDER)
