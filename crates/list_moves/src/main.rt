@@ -1,5 +1,6 @@
 // Reads an order file from standard input, and writes the answer of List to standard output (Specification 1.3).
 #![tactic(auto)]
+
 use services::{ANSWER_BYTES, ORDER_BYTES};
 
 fn main() {
