@@ -10,8 +10,8 @@ use Rattle.vectors.specs.Areas.{Lent, LentMut, sent_order}
 
 -- the list area holds the plain call's list, the group area the table, and the coefficients area a coefficient for each
 -- row and generator, with which the row is the combination of the generators; with them the list is passed by Check
-pub record CertifiedAccepted (order : Order) (list_size group_size : ℕ) (answer : Answer) (list : List ℤ) (group : List ℕ)
-    (coefficients : List ℤ) : Type 0 where
+pub record CertifiedAccepted (order : Order) (list_size group_size : ℕ) (answer : Answer) (list : List ℤ)
+    (group : List ℕ) (coefficients : List ℤ) : Type 0 where
   pub found : CertifiedListing
   pub kept : CertifiedKept order list_size group_size found
   pub says : (let listing = found.listing in
@@ -27,8 +27,8 @@ pub record CertifiedZero (list : List ℤ) (group : List ℕ) (coefficients : Li
   pub coefficients_hold : coefficients ≡ replicate (length coefficients) (pos 0)
 
 -- the answer and the three areas by the definition; and what a reader may conclude from an answer
-pub record CertifiedPromise (order : Order) (list_size group_size coefficient_size : ℕ) (answer : Answer) (list : List ℤ)
-    (group : List ℕ) (coefficients : List ℤ) : Type 0 where
+pub record CertifiedPromise (order : Order) (list_size group_size coefficient_size : ℕ) (answer : Answer)
+    (list : List ℤ) (group : List ℕ) (coefficients : List ℤ) : Type 0 where
   pub answers : answer ≡ (certified_call order list_size group_size coefficient_size).answer
   pub list_holds : list ≡ (certified_call order list_size group_size coefficient_size).list
   pub group_holds : group ≡ (certified_call order list_size group_size coefficient_size).group
@@ -38,8 +38,8 @@ pub record CertifiedPromise (order : Order) (list_size group_size coefficient_si
   pub refused : (number place : ℕ) → answer ≡ Refused number place → CertifiedZero list group coefficients
 
 -- .. of the order that is sent, in the areas that are lent
-abbrev pub KeepsCertified : (n : ℕ) (generators : Lent ℤ) (exchanges : Lent ℕ) (images : Lent ℤ) (list : LentMut ℤ) (group : LentMut ℕ)
-    (coefficients : LentMut ℤ) (answer : Answer) → Type 0
+abbrev pub KeepsCertified : (n : ℕ) (generators : Lent ℤ) (exchanges : Lent ℕ) (images : Lent ℤ) (list : LentMut ℤ)
+    (group : LentMut ℕ) (coefficients : LentMut ℤ) (answer : Answer) → Type 0
 KeepsCertified n generators exchanges images list group coefficients answer =
     let order = sent_order n generators exchanges images in
     let list_size = length list.entry.now in

@@ -125,8 +125,8 @@ pub record SplitLent (order : Order) (vector : List ℤ) (result : ℤ) (list : 
       → (result ≡ refusal_of 15 0) ↔ Outside order vector
 
 -- .. of the order and the vector that are sent, in the areas that are lent
-abbrev pub KeepsLentSplit : (n : ℕ) (generators : Lent ℤ) (exchanges : Lent ℕ) (images vector : Lent ℤ) (list : LentMut ℤ)
-    (group : LentMut ℕ) (pieces : LentMut ℤ) (counts : LentMut ℕ) (result : ℤ) → Type 0
+abbrev pub KeepsLentSplit : (n : ℕ) (generators : Lent ℤ) (exchanges : Lent ℕ) (images vector : Lent ℤ)
+    (list : LentMut ℤ) (group : LentMut ℕ) (pieces : LentMut ℤ) (counts : LentMut ℕ) (result : ℤ) → Type 0
 KeepsLentSplit n generators exchanges images vector list group pieces counts result =
     let order = sent_order n generators exchanges images in
     SplitLent order vector.entry.now result
@@ -202,7 +202,8 @@ pub record RunReturned (answer : Run) (result : ℤ) (counts : List ℕ) : Type 
   pub counts_hold : counts ≡ filled 0 (length counts) (run_counts answer)
 
 -- the end that is due
-abbrev pub window_due : Order → Chain → (list : List ℤ) (group : List ℕ) (answers : List ℤ) (counts : List ℕ) → WindowEnd
+abbrev pub window_due : Order → Chain → (list : List ℤ) (group : List ℕ) (answers : List ℤ) (counts : List ℕ)
+    → WindowEnd
 window_due order chain list group answers counts =
     let room : Room = record { list = length list; group = length group; answers = length answers } in
     lent_window order chain room (length counts)
@@ -228,8 +229,8 @@ pub record WindowLent (order : Order) (chain : Chain) (result : ℤ) (list : Lis
       → WindowZero list group answers × CountsZero counts
 
 -- .. of the order and the chain that are sent, in the areas that are lent
-abbrev pub KeepsLentWindow : Order → Chain → (list : LentMut ℤ) (group : LentMut ℕ) (answers : LentMut ℤ) (counts : LentMut ℕ)
-    (result : ℤ) → Type 0
+abbrev pub KeepsLentWindow : Order → Chain → (list : LentMut ℤ) (group : LentMut ℕ) (answers : LentMut ℤ)
+    (counts : LentMut ℕ) (result : ℤ) → Type 0
 KeepsLentWindow order chain list group answers counts result =
     WindowLent order chain result list.exit.now group.exit.now answers.exit.now counts.exit.now
 
@@ -275,7 +276,7 @@ pub record PlanLent (order : Order) (problem : Problem) (result : ℤ) (list : L
   pub refused : (k : ℕ) → result ≡ negsuc k → PlanZero list group plan × CountsZero counts
 
 -- .. of the order and the problem that are sent, in the areas that are lent
-abbrev pub KeepsLentPlan : Order → Problem → (list : LentMut ℤ) (group : LentMut ℕ) (plan : LentMut ℤ) (counts : LentMut ℕ)
-    (result : ℤ) → Type 0
+abbrev pub KeepsLentPlan : Order → Problem → (list : LentMut ℤ) (group : LentMut ℕ) (plan : LentMut ℤ)
+    (counts : LentMut ℕ) (result : ℤ) → Type 0
 KeepsLentPlan order problem list group plan counts result =
     PlanLent order problem result list.exit.now group.exit.now plan.exit.now counts.exit.now

@@ -85,7 +85,8 @@ listing_in n found list group = record {
 }
 
 -- 14 to 16 of a vector, with such areas and a pieces area
-abbrev pub parts_in : (n : ℕ) → Numbers → (vector : Lent ℤ) (list : LentMut ℤ) (group : LentMut ℕ) (pieces : LentMut ℤ) → Outcome Parts
+abbrev pub parts_in : (n : ℕ) → Numbers → (vector : Lent ℤ) (list : LentMut ℤ) (group : LentMut ℕ)
+    (pieces : LentMut ℤ) → Outcome Parts
 parts_in n found vector list group pieces =
     let listed = listing_in n found list.entry.now group.entry.now in
     parts_of vector.entry.now (length pieces.entry.now) (accepted listed)

@@ -40,8 +40,8 @@ pub record ListPromise (order : Order) (list_size group_size : ℕ) (answer : An
   pub refused : (number place : ℕ) → answer ≡ Refused number place → ListZero list group
 
 -- .. of the order that is sent, in the areas that are lent
-abbrev pub KeepsList : (n : ℕ) (generators : Lent ℤ) (exchanges : Lent ℕ) (images : Lent ℤ) (list : LentMut ℤ) (group : LentMut ℕ)
-    (answer : Answer) → Type 0
+abbrev pub KeepsList : (n : ℕ) (generators : Lent ℤ) (exchanges : Lent ℕ) (images : Lent ℤ) (list : LentMut ℤ)
+    (group : LentMut ℕ) (answer : Answer) → Type 0
 KeepsList n generators exchanges images list group answer =
     let order = sent_order n generators exchanges images in
     ListPromise order (length list.entry.now) (length group.entry.now) answer

@@ -24,8 +24,8 @@ pub record PlanEnds (due : PlanEnd) (answer : Planned) (list : List ℤ) (group 
   pub plan_holds : plan ≡ due.plan
 
 -- .. in lent areas
-abbrev pub PlanEndsIn : (due : PlanRoom → PlanEnd) (list : LentMut ℤ) (group : LentMut ℕ) (plan : LentMut ℤ) (answer : Planned)
-    → Type 0
+abbrev pub PlanEndsIn : (due : PlanRoom → PlanEnd) (list : LentMut ℤ) (group : LentMut ℕ) (plan : LentMut ℤ)
+    (answer : Planned) → Type 0
 PlanEndsIn due list group plan answer =
     PlanEnds (due (room_in list group plan)) answer list.exit.now group.exit.now plan.exit.now
 

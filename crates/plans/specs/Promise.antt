@@ -72,7 +72,8 @@ room_in list group plan = record {
 }
 
 -- .. of the order and the problem that are sent, in the areas that are lent
-abbrev pub KeepsPlan : Order → Problem → (list : LentMut ℤ) (group : LentMut ℕ) (plan : LentMut ℤ) (answer : Planned) → Type 0
+abbrev pub KeepsPlan : Order → Problem → (list : LentMut ℤ) (group : LentMut ℕ) (plan : LentMut ℤ)
+    (answer : Planned) → Type 0
 KeepsPlan order problem list group plan answer =
     PlanPromise order problem (room_in list group plan) answer
     list.exit.now group.exit.now plan.exit.now

@@ -101,7 +101,8 @@ fn descend_listed(
     requires held { Held n found list.old group.old }
     requires room { list_limit * group_limit ≤ length marks.old }
     requires fitting { Fitting n start.now upper.now costs.now budget plan.old }
-    ensures ended { PlanEndsIn (descended n found (problem_in start upper costs budget) list group) list group plan result }
+    ensures ended { PlanEndsIn (descended n found (problem_in start upper costs budget) list group)
+        list group plan result }
 {
     let g = found.members as usize;
     let k = found.rows as usize;
@@ -142,7 +143,8 @@ fn test_listed(
 ) -> Planned
     requires held { Held n found list.old group.old }
     requires room { list_limit * group_limit ≤ length marks.old }
-    ensures ended { PlanEndsIn (tested n found (problem_in start upper costs budget) list group) list group plan result }
+    ensures ended { PlanEndsIn (tested n found (problem_in start upper costs budget) list group)
+        list group plan result }
 {
     let fault = problem_fault(n, start, upper, costs, budget, plan.len());
     match fault {

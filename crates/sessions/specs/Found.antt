@@ -79,8 +79,8 @@ pub record Ends (n : ℕ) (first second : Result) (list : List ℤ) (r : Session
   pub holds : list ≡ half_of n first ++ half_of n second
 
 -- .. after the steps that name them
-abbrev pub EndsIn : Tests → (n : ℕ) (generators0 generators1 : Lent ℤ) (list : LentMut ℤ) (table steps : Lent ℕ) (r : Session)
-    → Type 0
+abbrev pub EndsIn : Tests → (n : ℕ) (generators0 generators1 : Lent ℤ) (list : LentMut ℤ)
+    (table steps : Lent ℕ) (r : Session) → Type 0
 EndsIn tests n generators0 generators1 list table steps r =
     let result = result_by (shape_of n tests) table.entry.now in
     Ends n (result tests.first generators0.entry.now (steps_of 0 steps.entry.now))

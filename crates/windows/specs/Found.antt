@@ -37,13 +37,15 @@ pub record Refuses (number place at : ℕ) (list : LentMut ℤ) (group : LentMut
   pub answers_hold : answers.exit.now ≡ cleared_from (pos 0) at answers.entry.now
 
 -- 6, 14 and the run, with a list and a table in their areas
-abbrev pub tested : View → Numbers → (start records : Lent ℤ) (list : LentMut ℤ) (group : LentMut ℕ) (room : Room) → WindowEnd
+abbrev pub tested : View → Numbers → (start records : Lent ℤ) (list : LentMut ℤ) (group : LentMut ℕ) (room : Room)
+    → WindowEnd
 tested view found start records list group room =
     let listed = listing_in view.n found list.entry.now group.entry.now in
     window_of view.n (chain_in view start records) room (accepted listed)
 
 -- .. the run alone
-abbrev pub drawn : View → Numbers → (start records : Lent ℤ) (list : LentMut ℤ) (group : LentMut ℕ) (room : Room) → WindowEnd
+abbrev pub drawn : View → Numbers → (start records : Lent ℤ) (list : LentMut ℤ) (group : LentMut ℕ) (room : Room)
+    → WindowEnd
 drawn view found start records list group room =
     let listed = listing_in view.n found list.entry.now group.entry.now in
     drawn_end view.n (chain_in view start records) room listed None

@@ -72,7 +72,8 @@ room_in list group answers = record {
 }
 
 -- .. of the order and the chain that are sent, in the areas that are lent
-abbrev pub KeepsWindow : Order → Chain → (list : LentMut ℤ) (group : LentMut ℕ) (answers : LentMut ℤ) (answer : Run) → Type 0
+abbrev pub KeepsWindow : Order → Chain → (list : LentMut ℤ) (group : LentMut ℕ) (answers : LentMut ℤ)
+    (answer : Run) → Type 0
 KeepsWindow order chain list group answers answer =
     WindowPromise order chain (room_in list group answers) answer
     list.exit.now group.exit.now answers.exit.now

@@ -28,6 +28,12 @@ module _ (s : Start) where
   rest_read : to_z w32 (of_z w32 (bound -ℤ entry)) ≡ bound -ℤ entry
   rest_read = to_z-of_z {w = w32} (rest-fits inside s.ranges.bound)
 
+pub returns-then-x-rest : goal.returns-then-x-rest
+returns-then-x-rest c = let e = simp (bound-read c.before, entry_read c.before, rest_read c.before) at c.if-x-rest.true in record { made = simp (bound-read c.before, entry_read c.before, rest_read c.before) (rest-larger (inside c.before) e) }
+
+pub returns-else-x-rest : goal.returns-else-x-rest
+returns-else-x-rest c = let e = simp (bound-read c.before, entry_read c.before, rest_read c.before) at c.if-x-rest.false in record { made = simp (entry_read c.before) (entry-larger (inside c.before) e) }
+
 pub overflow_sub-rest : goal.overflow_sub-rest
 overflow_sub-rest c = simp (bound-read c, entry_read c) (rest-fits (inside c) c.ranges.bound)
 
@@ -36,9 +42,3 @@ overflow_cast-result c = simp (bound-read c.before, entry_read c.before, rest_re
 
 pub overflow_cast-result-else-x-rest : goal.overflow_cast-result-else-x-rest
 overflow_cast-result-else-x-rest c = simp (entry_read c.before) (entry-casts (inside c.before) c.ranges.bound)
-
-pub returns-then-x-rest : goal.returns-then-x-rest
-returns-then-x-rest c = let e = simp (bound-read c.before, entry_read c.before, rest_read c.before) at c.if-x-rest.true in record { made = simp (bound-read c.before, entry_read c.before, rest_read c.before) (rest-larger (inside c.before) e) }
-
-pub returns-else-x-rest : goal.returns-else-x-rest
-returns-else-x-rest c = let e = simp (bound-read c.before, entry_read c.before, rest_read c.before) at c.if-x-rest.false in record { made = simp (entry_read c.before) (entry-larger (inside c.before) e) }
