@@ -2,7 +2,6 @@
 -- says, and what the result of a refusal says.
 pub mod Pages
 pub mod Digits
-pub mod Absolute
 pub mod Lines
 pub mod Cases
 pub mod Longest

@@ -1,6 +1,8 @@
 -- NO TEXT IS LONGER than the limit of Specification 9.4: the longest first line, as many rows as a list can have,
 -- each with the longest
 -- entries, and END. Assumes nothing.
+use Rattle.definitions.specs.Refusals.{Outcome, accepted}
+use Rattle.std.specs.declared.result.Result.TheVariants.{Err}
 use mathlib.Core.Path.{◌≡◌, refl, ◌∙◌, ap}
 use mathlib.Core.List.{List, [], ◌∷◌, ◌++◌, map, Memᴰ}
 use mathlib.Core.Logic.{⊎_elim}
@@ -11,7 +13,7 @@ use borrow.Author.Tests.{leb-true}
 use lib.IntN.{ℤ, pos, negsuc, nat_abs}
 use lib.ListN.{length, length-append}
 use Rattle.definitions.specs.declared.Answer.{Answer}
-use Rattle.definitions.specs.declared.Answer.TheVariants.{Moves, Split, Passed, Refused}
+use Rattle.definitions.specs.declared.Answer.TheVariants.{Moves, Split, Passed}
 use Rattle.definitions.specs.Limits.{cells, entry_limit, list_limit, split_limit, piece_width, lent_pieces}
 use Rattle.definitions.specs.Lists.{concat}
 use Rattle.definitions.specs.Completion.{sum_count}
@@ -152,22 +154,22 @@ single-short word a b h k =
     head-grows word (and h' (and k' none))
 
 -- THE THEOREM, for every answer within the limits
-pub text-short : (answer : Answer) (lines : List (List ℤ)) → WithinLimits answer lines
+pub text-short : (answer : Outcome Answer) (lines : List (List ℤ)) → WithinLimits answer lines
     → length (answer_text answer lines) ≤ text_limit
 unfolding text_limit answer_text moves_text split_text passed_text refused_text
-text-short (Moves rows members stored sums) lines h =
+text-short (accepted (Moves rows members stored sums)) lines h =
     let counts = length lines ∷ members ∷ stored ∷ sums ∷ [] in
     let head : length (head_text moves_word counts) ≤ length (head_text moves_word moves_counts) =
     head-grows moves_word (and h.0 (and h.1 (and h.2 (and h.3 none)))) in
     let body : length (lines_text lines) ≤ list_limit * line_limit cells entry_limit =
     lines-short cells entry_limit list_limit lines (omega arith) h.0 h.4 in
     omega (arith, length-table moves_word counts lines)
-text-short (Split pieces rows members stored sums) lines h =
+text-short (accepted (Split pieces rows members stored sums)) lines h =
     let head : length (head_text split_word (length lines ∷ [])) ≤ length (head_text split_word (lent_pieces ∷ [])) =
     head-grows split_word (and h.0 none) in
     let body : length (lines_text lines) ≤ lent_pieces * line_limit piece_width split_limit =
     lines-short piece_width split_limit lent_pieces lines (omega arith) h.0 h.1 in
     omega (arith, length-table split_word (length lines ∷ []) lines, split-most)
-text-short (Passed rows sums) lines h = omega (arith, single-short passed_word rows sums h.0 h.1, passed-most)
-text-short (Refused number place) lines h =
-    omega (arith, single-short refused_word number place h.0 h.1, refused-most)
+text-short (accepted (Passed rows sums)) lines h = omega (arith, single-short passed_word rows sums h.0 h.1, passed-most)
+text-short (Err r) lines h =
+    omega (arith, single-short refused_word r.number r.place h.0 h.1, refused-most)

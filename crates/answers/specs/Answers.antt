@@ -1,7 +1,9 @@
 -- Specification 9.1 to 9.3: the text of each answer. Assumes nothing.
+use Rattle.definitions.specs.Refusals.{Outcome, accepted}
+use Rattle.std.specs.declared.result.Result.TheVariants.{Err}
 use Rattle.std.specs.Prelude.{List, [], ◌∷◌, ◌++◌, map, ℕ, ℤ, length}
 use Rattle.definitions.specs.declared.Answer.{Answer}
-use Rattle.definitions.specs.declared.Answer.TheVariants.{Moves, Split, Passed, Refused}
+use Rattle.definitions.specs.declared.Answer.TheVariants.{Moves, Split, Passed}
 use Rattle.definitions.specs.Lists.{concat}
 use Rattle.definitions.specs.Lent.{chunks}
 use Rattle.answers.specs.Text.{decimal, decimalℤ}
@@ -78,19 +80,19 @@ unfoldable pub refused_text : (number place : ℕ) → List ℕ
 refused_text number place = head_text refused_word (number ∷ place ∷ [])
 
 -- the lines of numbers that the text of an answer has
-abbrev pub line_count : Answer → ℕ
-line_count (Moves rows members stored sums) = rows
-line_count (Split pieces rows members stored sums) = pieces
-line_count (Passed rows sums) = 0
-line_count (Refused number place) = 0
+abbrev pub line_count : Outcome Answer → ℕ
+line_count (accepted (Moves rows members stored sums)) = rows
+line_count (accepted (Split pieces rows members stored sums)) = pieces
+line_count (accepted (Passed rows sums)) = 0
+line_count (Err r) = 0
 
 -- THE TEXT OF AN ANSWER whose lines of numbers are these
-unfoldable pub answer_text : Answer → (lines : List (List ℤ)) → List ℕ
-answer_text (Moves rows members stored sums) lines = moves_text members stored sums lines
-answer_text (Split pieces rows members stored sums) lines = split_text lines
-answer_text (Passed rows sums) lines = passed_text rows sums
-answer_text (Refused number place) lines = refused_text number place
+unfoldable pub answer_text : Outcome Answer → (lines : List (List ℤ)) → List ℕ
+answer_text (accepted (Moves rows members stored sums)) lines = moves_text members stored sums lines
+answer_text (accepted (Split pieces rows members stored sums)) lines = split_text lines
+answer_text (accepted (Passed rows sums)) lines = passed_text rows sums
+answer_text (Err r) lines = refused_text r.number r.place
 
 -- .. whose lines are the first rows of `width` numbers
-abbrev pub rows_text : Answer → (width : ℕ) (numbers : List ℤ) → List ℕ
+abbrev pub rows_text : Outcome Answer → (width : ℕ) (numbers : List ℤ) → List ℕ
 rows_text answer width numbers = answer_text answer (chunks width (line_count answer) numbers)

@@ -1,8 +1,10 @@
 -- Specification 9.4: how long a text can be, by the limits. Assumes nothing.
+use Rattle.definitions.specs.Refusals.{Outcome, accepted}
+use Rattle.std.specs.declared.result.Result.TheVariants.{Err}
 use mathlib.Core.List.{List, [], ◌∷◌, Memᴰ}
 use Rattle.std.specs.Prelude.{ℕ, ◌+◌, ◌*◌, ◌≤◌, ◌<◌, ◌^◌, ℤ, nat_abs, length}
 use Rattle.definitions.specs.declared.Answer.{Answer}
-use Rattle.definitions.specs.declared.Answer.TheVariants.{Moves, Split, Passed, Refused}
+use Rattle.definitions.specs.declared.Answer.TheVariants.{Moves, Split, Passed}
 use Rattle.definitions.specs.Limits.{cells, entry_limit, group_limit, list_limit, split_limit, piece_width, lent_pieces}
 use Rattle.definitions.specs.Completion.{sum_count}
 use Rattle.answers.specs.Text.{digit_count}
@@ -26,14 +28,14 @@ LinesWithin width limit lines =
     (line : List ℤ) → Memᴰ line lines → (length line ≤ width) × ((z : ℤ) → Memᴰ z line → nat_abs z ≤ limit)
 
 -- an answer and its lines as they come from the areas that programs lend; a single line may have any counts of 64 bits
-abbrev pub WithinLimits : Answer → (lines : List (List ℤ)) → Type 0
-WithinLimits (Moves rows members stored sums) lines =
+abbrev pub WithinLimits : Outcome Answer → (lines : List (List ℤ)) → Type 0
+WithinLimits (accepted (Moves rows members stored sums)) lines =
     (length lines ≤ list_limit)
     × (members ≤ group_limit)
     × (stored ≤ list_limit)
     × (sums ≤ sum_count group_limit list_limit)
     × LinesWithin cells entry_limit lines
-WithinLimits (Split pieces rows members stored sums) lines =
+WithinLimits (accepted (Split pieces rows members stored sums)) lines =
     (length lines ≤ lent_pieces) × LinesWithin piece_width split_limit lines
-WithinLimits (Passed rows sums) lines = (rows < 2 ^ 64) × (sums < 2 ^ 64)
-WithinLimits (Refused number place) lines = (number < 2 ^ 64) × (place < 2 ^ 64)
+WithinLimits (accepted (Passed rows sums)) lines = (rows < 2 ^ 64) × (sums < 2 ^ 64)
+WithinLimits (Err r) lines = (r.number < 2 ^ 64) × (r.place < 2 ^ 64)

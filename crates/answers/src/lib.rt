@@ -11,8 +11,8 @@ ghost use Rattle.answers.specs.Page.{LaidIn, WroteIn};
 ghost use Rattle.answers.specs.Parts.{placed_text, table_text_in};
 ghost use Rattle.answers.specs.Refusal.{refusal_code, refusal_of};
 
-use definitions::Answer;
-use vectors::clear_bytes;
+use definitions::{Answer, Refusal};
+use vectors::clear;
 
 // How long a text can be.
 pub mod lengths;
@@ -20,16 +20,14 @@ pub mod lengths;
 // What the place of a refusal is multiplied by (Specification 9.4).
 const PLACE_FACTOR: u64 = 32;
 
-// Copies a text to a place where there is room for it.
+// Copies a text to a place where there is room for it; the empty text has room also past the area's end.
 fn copy_at(area: &mut [u8], at: usize, text: &[u8])
     requires fits { length text.now ≤ length area.old - at }
     ensures copied { let s = text.now in
         area.new ≡ paste area.old at s (length s) }
 {
-    let mut i = 0;
-    while i < text.len() {
-        area[at + i] = text[i];
-        i += 1;
+    if !text.is_empty() {
+        area[at..at + text.len()].copy_from_slice(text);
     }
 }
 
@@ -37,10 +35,7 @@ fn copy_at(area: &mut [u8], at: usize, text: &[u8])
 fn room(n: usize, at: usize) -> usize
     ensures left { result ≡ n - at }
 {
-    if n <= at {
-        return 0;
-    }
-    n - at
+    n.saturating_sub(at)
 }
 
 // Writes a text at a place, and answers the place behind it.
@@ -50,7 +45,7 @@ pub fn put_text(area: &mut [u8], at: usize, text: &[u8]) -> usize
     let n = area.len();
     let m = text.len();
     if room(n, at) < m {
-        clear_bytes(area, 0);
+        clear(area, 0, 0);
         return n + 1;
     }
     copy_at(area, at, text);
@@ -81,10 +76,7 @@ pub fn put_natural(area: &mut [u8], at: usize, x: u64) -> usize
 pub fn magnitude(z: i64) -> u64
     ensures absolute { result ≡ nat_abs z }
 {
-    if z < 0 {
-        return (-(z + 1)) as u64 + 1;
-    }
-    z as u64
+    z.unsigned_abs()
 }
 
 // Writes a signed number in decimal.
@@ -112,10 +104,8 @@ pub fn put_head(area: &mut [u8], at: usize, word: &[u8], counts: &[u64]) -> usiz
     ensures wrote { WroteIn area at result (head_text word.now counts.now) }
 {
     let mut end = put_text(area, at, word);
-    let mut i = 0;
-    while i < counts.len() {
-        end = put_count(area, end, counts[i]);
-        i += 1;
+    for count in counts {
+        end = put_count(area, end, *count);
     }
     put_byte(area, end, b'\n')
 }
@@ -125,7 +115,7 @@ fn put_entry(area: &mut [u8], at: usize, line: &[i32], j: usize) -> usize
     requires entry { j < length line.now }
     ensures wrote { WroteIn area at result (placed_text line.now j) }
 {
-    let z = line[j] as i64;
+    let z = i64::from(line[j]);
     if j == 0 {
         return put_integer(area, at, z);
     }
@@ -138,10 +128,8 @@ pub fn put_line(area: &mut [u8], at: usize, line: &[i32]) -> usize
     ensures wrote { WroteIn area at result (line_text line.now) }
 {
     let mut end = at;
-    let mut j = 0;
-    while j < line.len() {
+    for j in 0..line.len() {
         end = put_entry(area, end, line, j);
-        j += 1;
     }
     put_byte(area, end, b'\n')
 }
@@ -153,12 +141,10 @@ pub fn put_rows(area: &mut [u8], at: usize, numbers: &[i32], width: usize, count
 {
     let mut end = at;
     let mut from = 0;
-    let mut i = 0;
-    while i < count {
+    for i in 0..count {
         let to = from + width;
         end = put_line(area, end, &numbers[from..to]);
         from = to;
-        i += 1;
     }
     end
 }
@@ -182,36 +168,45 @@ fn put_table(
 
 // Lays an answer's text into the area, with zeros behind it, and answers its length; zeros alone, and a number past the
 // area's length, where the text is longer (Specification 9.4). Its lines are the first rows of `width` numbers.
-pub fn write_answer(area: &mut [u8], answer: Answer, numbers: &[i32], width: usize) -> usize
+pub fn write_answer(
+    area: &mut [u8],
+    answer: Result<Answer, Refusal>,
+    numbers: &[i32],
+    width: usize,
+) -> usize
     requires rows { line_count answer * width ≤ length numbers.now }
     ensures laid { LaidIn area result (rows_text answer width numbers.now) }
 {
-    clear_bytes(&mut *area, 0);
+    clear(&mut *area, 0, 0);
     match answer {
-        Answer::Moves {
-            rows,
-            members,
-            stored,
-            sums,
-        } => {
+        Ok(
+            Answer::Moves {
+                rows,
+                members,
+                stored,
+                sums,
+            },
+        ) => {
             let counts = [rows, members, stored, sums];
             put_table(area, b"MOVES", &counts, numbers, width, rows as usize)
         }
-        Answer::Split {
-            pieces,
-            rows,
-            members,
-            stored,
-            sums,
-        } => {
+        Ok(
+            Answer::Split {
+                pieces,
+                rows,
+                members,
+                stored,
+                sums,
+            },
+        ) => {
             let counts = [pieces];
             put_table(area, b"SPLIT", &counts, numbers, width, pieces as usize)
         }
-        Answer::Passed { rows, sums } => {
+        Ok(Answer::Passed { rows, sums }) => {
             let counts = [rows, sums];
             put_head(area, 0, b"PASSED", &counts)
         }
-        Answer::Refused { number, place } => {
+        Err(Refusal { number, place }) => {
             let counts = [number, place];
             put_head(area, 0, b"REFUSED", &counts)
         }

@@ -1,37 +1,38 @@
 -- A combination cell by cell, and why its sums fit (Specification 2.2 and 6). Assumes nothing.
-use mathlib.Core.Path.{◌≡◌, refl, sym, ◌∙◌, ap, ap₂}
-use mathlib.Core.Logic.{◌⊎◌, inl, inr}
-use mathlib.Core.Bool.{true, false}
-use mathlib.Core.List.{List, [], ◌∷◌}
+use mathlib.Core.Path.{◌≡◌, refl, sym, ◌∙◌, ap}
+use mathlib.Core.Bool.{false}
+use mathlib.Core.List.{List, [], ◌∷◌, append_assoc}
 use Prim.Native.Nat.{ℕ, zero, suc, ◌+◌, ◌-◌, ◌*◌, ◌/◌, ◌≤◌, ◌<◌}
 use native.Mathlib.Nat.{mul-le-mul}
-use native.Mathlib.Decide.{ℕ_discrete}
 use native.Mathlib.Numerals.{add-one}
 use native.Mathlib.Omega.{arith}
-use lib.IntN.{ℤ, pos, negsuc, nat_abs, ◌+ℤ◌, ◌*ℤ◌}
-use lib.ListN.{length, get_or, take, drop, replicate, drop_of_length-le, get_or-append}
-use lib.Seq.{drop-cons, ext_get_or}
-use mir.Syntax.{w32, w64}
-use mir.Val.{to_z, of_z, SFits}
+use lib.IntN.{ℤ, pos, nat_abs, ◌+ℤ◌, ◌*ℤ◌}
+use lib.ListN.{length, get_or, set, take, drop, replicate, drop_of_length-le, get_or-append}
+use lib.Seq.{drop-cons, length-take-le, set-append_seam}
+use mir.Syntax.{w64}
+use mir.Val.{SFits}
 use mir.Facts.{to_z-of_z}
+use Rattle.std.specs.List.{list_all, zip}
+use Rattle.std.specs.Ordering.{int_eq}
+use Rattle.std.proofs.lemmas.List.{take_more}
+use Rattle.std.proofs.lemmas.Int.{fits_signed_from_abs, unsigned_abs-mul}
 use Rattle.definitions.specs.Limits.{cells, entry_limit, generator_limit, coefficient_limit}
 use Rattle.definitions.specs.Lists.{any}
 use Rattle.definitions.specs.Vector.{Vector, padded, plus, scale, zeros, zero_vector, equal}
 use Rattle.definitions.specs.Lattice.{combination, InLattice}
 use Rattle.definitions.specs.Lent.{vectors_of}
 use Rattle.definitions.specs.Refusals.{is_past}
-use Rattle.theory.proofs.Tests.{bool_cases}
-use Rattle.theory.proofs.Cell.{abs_neg, abs-plus}
+use Rattle.theory.proofs.Cell.{abs-plus}
 use Rattle.theory.proofs.Members.{Each, any_none, each_at}
 use Rattle.theory.proofs.CheckCall.{vectors-count}
 use Rattle.theory.proofs.Lattice.{length-combination}
 use Rattle.theory.proofs.Accepted.{each-drop, past-none, vectors-length}
 use Rattle.theory.proofs.Rows.{lattice-short, short-padded, vectors-short}
-use Rattle.theory.proofs.Equal.{equal-same, same-equal}
-use Rattle.vectors.proofs.Cells.{wide_read}
+use Rattle.theory.proofs.Bounds.{within-each, within-cell}
+use Rattle.vectors.proofs.Cells.{equal-cell}
 use Rattle.vectors.proofs.Kit.{cell_at, length-row, row_at}
 use Rattle.vectors.proofs.Rows.{row_room, vectors-at}
-use Rattle.coefficients.proofs.Numbers.{fits}
+use Rattle.certificates.specs.Tests.{Certificate}
 
 -- cell j of a combination
 abbrev pub combined_at : (coefficients : List ℤ) (generators : List Vector) (j : ℕ) → ℤ
@@ -90,6 +91,16 @@ generator-at n q j numbers h k =
     ∙ get_or-append row (replicate (cells - length row) (pos 0)) (pos 0) j (omega arith)
     ∙ row_at numbers (q * n) n j k
 
+-- one generator more, in the area that was lent
+module _ (n j q : ℕ) (numbers coefficients : List ℤ) where
+  pub combined-next : (n ≤ cells) × (j < n) → Certificate n numbers coefficients → q < length coefficients
+      → combined_at (drop q coefficients) (drop q (vectors_of n numbers)) j
+      ≡ get_or coefficients q (pos 0) *ℤ get_or numbers (q * n + j) (pos 0) +ℤ combined_at (drop (q + 1) coefficients) (drop (q + 1) (vectors_of n numbers)) j
+  combined-next h C k =
+      let vs = vectors_of n numbers in
+      combined-turn coefficients vs j q (vectors-length n numbers h.0) (omega arith) k (omega (arith, vectors-count n numbers, C.one_each))
+      ∙ ap (λ (z : ℤ). get_or coefficients q (pos 0) *ℤ z +ℤ combined_at (drop (q + 1) coefficients) (drop (q + 1) vs) j) (generator-at n q j numbers (omega (arith, C.one_each)) h.1)
+
 -- a combination has the cells of a vector, and those past n are zero
 module _ (coefficients : List ℤ) (n : ℕ) (numbers : List ℤ) (h : n ≤ cells) where
   abbrev sum : Vector
@@ -105,90 +116,59 @@ module _ (coefficients : List ℤ) (n : ℕ) (numbers : List ℤ) (h : n ≤ cel
       short-padded n sum h sum-long
       (lattice-short n (vectors-length n numbers h) (vectors-short n numbers) sum inside)
 
+-- the cells of a vector up to j, and zeros behind them: one cell more
+pub padded-more : (v : Vector) (j : ℕ) → length v ≡ cells → j < cells → set (padded (take j v)) j (cell_at v j) ≡ padded (take (j + 1) v)
+unfolding padded
+padded-more v j e h =
+    let l : length (take j v) ≡ j = length-take-le j v (omega arith) in
+    let m : length (take (j + 1) v) ≡ j + 1 = length-take-le (j + 1) v (omega arith) in
+    let left : cells - j ≡ suc (cells - (j + 1)) = omega arith in
+    let seam = set-append_seam (take j v) (pos 0) (replicate (cells - (j + 1)) (pos 0)) (cell_at v j) in
+    rw (m, take_more v j (pos 0) (omega arith), append_assoc, l, left) (rw l at seam)
+
+-- .. none yet
+pub padded-none : padded [] ≡ replicate cells (pos 0)
+unfolding padded
+padded-none = refl
+
+-- what a loop that fills in the cells of a combination uses
+pub ruleset sum_turn = (padded-none, padded-more, sum-long, sum-padded, to_z-of_z)
+
 -- ---- what the machine makes of a sum
 
 -- the greatest absolute value of a coefficient times an entry
 abbrev pub term_limit : ℕ
 term_limit = coefficient_limit * entry_limit
 
--- the absolute value of a product
-abs-times : (x y : ℤ) → nat_abs (x *ℤ y) ≡ nat_abs x * nat_abs y
-abs-times (pos a) (pos b) = refl
-abs-times (pos a) (negsuc b) = abs_neg (pos (a * suc b))
-abs-times (negsuc a) (pos b) = abs_neg (pos (suc a * b))
-abs-times (negsuc a) (negsuc b) = refl
+-- a coefficient times an entry is small, and fits
+pub record Term (c e : ℤ) : Type 0 where
+  pub small : nat_abs (c *ℤ e) ≤ term_limit
+  pub product_fits : SFits w64 (c *ℤ e)
 
--- a coefficient and an entry within their limits
-pub record Small (c e : ℤ) : Type 0 where
-  pub coefficient : nat_abs c ≤ coefficient_limit
-  pub entry : nat_abs e ≤ entry_limit
+-- .. at place q of a sum
+pub term-at : (n j q : ℕ) (numbers coefficients : List ℤ) → Certificate n numbers coefficients → any (is_past coefficient_limit) coefficients ≡ false
+    → q < length coefficients → Term (get_or coefficients q (pos 0)) (get_or numbers (q * n + j) (pos 0))
+term-at n j q numbers coefficients C e h =
+    let c = get_or coefficients q (pos 0) in
+    let entry = get_or numbers (q * n + j) (pos 0) in
+    let coefficient-small = past-none coefficient_limit c (each_at coefficients (pos 0) (any_none (is_past coefficient_limit) coefficients e) q h) in
+    let entry-small = within-cell entry_limit numbers (within-each entry_limit numbers C.bounded.entries) (q * n + j) in
+    let small : nat_abs (c *ℤ entry) ≤ term_limit = omega (arith, unsigned_abs-mul c entry, mul-le-mul coefficient-small entry-small) in
+    record { small = small; product_fits = fits_signed_from_abs w64 (c *ℤ entry) (omega arith) }
 
--- their product, as it is read
-abbrev product : (c e : ℤ) → ℤ
-product c e = to_z w64 (of_z w64 c) *ℤ to_z w64 (of_z w64 (to_z w32 (of_z w32 e)))
-
-module _ {c e : ℤ} (small : Small c e) where
-  -- it is small
-  term-small : nat_abs (c *ℤ e) ≤ term_limit
-  term-small = omega (arith, abs-times c e, mul-le-mul small.coefficient small.entry)
-
-  -- it is read as what it is
-  product_is : product c e ≡ c *ℤ e
-  product_is =
-      ap₂ ◌*ℤ◌ (to_z-of_z {w = w64} (fits coefficient_limit c small.coefficient (omega arith)))
-      (wide_read e (fits entry_limit e small.entry (omega arith)))
-
-  -- it fits
-  pub term_fits : SFits w64 (product c e)
-  term_fits = rw product_is (fits term_limit (c *ℤ e) term-small (omega arith))
-
-  module _ (s : ℤ) (q : ℕ) (hs : nat_abs s ≤ q * term_limit) (hq : q < generator_limit) where
-    -- added to a sum of q such products it gives a sum of one more
-    pub sum-small : nat_abs (s +ℤ c *ℤ e) ≤ (q + 1) * term_limit
-    sum-small = omega (arith, abs-plus s (c *ℤ e), term-small)
-
-    -- which fits
-    next_fits : SFits w64 (s +ℤ c *ℤ e)
-    next_fits = fits (generator_limit * term_limit) (s +ℤ c *ℤ e) (omega (arith, sum-small)) (omega arith)
-
-    -- the sum is read as what it is
-    added : s +ℤ to_z w64 (of_z w64 (product c e)) ≡ s +ℤ c *ℤ e
-    added = ap (λ (z : ℤ). s +ℤ z) (to_z-of_z term_fits ∙ product_is)
-
-    -- so the addition is safe
-    pub sum_fits : SFits w64 (s +ℤ to_z w64 (of_z w64 (product c e)))
-    sum_fits = rw added next_fits
-
-    -- and gives the sum
-    pub sum-read : to_z w64 (of_z w64 (s +ℤ to_z w64 (of_z w64 (product c e)))) ≡ s +ℤ c *ℤ e
-    sum-read = rw added (to_z-of_z next_fits)
-
--- no coefficient is past its limit
-pub coefficient-small : (coefficients : List ℤ) (q : ℕ) → any (is_past coefficient_limit) coefficients ≡ false
-    → q < length coefficients → nat_abs (get_or coefficients q (pos 0)) ≤ coefficient_limit
-coefficient-small coefficients q e h =
-    past-none coefficient_limit (get_or coefficients q (pos 0))
-    (each_at coefficients (pos 0) (any_none (is_past coefficient_limit) coefficients e) q h)
+-- the sum of q such products and one more is small, and fits
+pub sum_fits : {c e : ℤ} (s : ℤ) (q : ℕ) → Term c e → nat_abs s ≤ q * term_limit → q < generator_limit
+    → (nat_abs (s +ℤ c *ℤ e) ≤ (q + 1) * term_limit) × SFits w64 (s +ℤ c *ℤ e)
+sum_fits {c} {e} s q t h k =
+    let small : nat_abs (s +ℤ c *ℤ e) ≤ (q + 1) * term_limit = omega (arith, abs-plus s (c *ℤ e), t.small) in
+    (small, fits_signed_from_abs w64 (s +ℤ c *ℤ e) (omega arith))
 
 -- ---- a combination against a row, cell by cell
 
-module _ (u v : Vector) (j : ℕ) (same : (i : ℕ) → i < j → cell_at u i ≡ cell_at v i) where
-  -- one cell more is the same
-  pub same_more : cell_at u j ≡ cell_at v j → (i : ℕ) → i < j + 1 → cell_at u i ≡ cell_at v i
-  same_more e i h = go (ℕ_discrete i j)
-    where
-      go : Dec (i ≡ j) → cell_at u i ≡ cell_at v i
-      go (yes q) = ap (cell_at u) q ∙ e ∙ ap (cell_at v) (sym q)
-      go (no q) = same i (omega arith)
-
-  -- all cells are
-  pub same-all : length u ≡ length v → length u ≤ j → true ≡ equal u v
-  same-all l h = sym (ap (equal u) (sym (ext_get_or (pos 0) u v l (λ i k. same i (omega arith)))) ∙ same-equal u)
-
--- one is not
-pub same_not : (u v : Vector) (j : ℕ) → (cell_at u j ≡ cell_at v j → ⊥) → false ≡ equal u v
-same_not u v j h = go (bool_cases (equal u v))
-  where
-    go : (equal u v ≡ true) ⊎ (equal u v ≡ false) → false ≡ equal u v
-    go (inl e) = absurd (h (ap (λ (w : Vector). cell_at w j) (equal-same u v e)))
-    go (inr e) = sym e
+-- std's test of their cells is the comparison of vectors
+pub equal-zip : (u v : Vector) → length u ≡ length v → list_all (λ p. int_eq p.0 p.1) (zip u v) ≡ equal u v
+unfolding equal
+equal-zip [] [] h = refl
+equal-zip [] (b ∷ v) h = absurd (omega arith)
+equal-zip (a ∷ u) [] h = absurd (omega arith)
+equal-zip (a ∷ u) (b ∷ v) h = rw (equal-cell a b, equal-zip u v (omega arith))

@@ -1,7 +1,7 @@
 -- Specification 7.2: what the tests 17 to 19 find of a brought list, and 23 of images; what they ask of their callers.
 -- Assumes nothing.
+use Rattle.definitions.specs.Refusals.{Fault}
 use Rattle.std.specs.Prelude.{◌≡◌, Bool, true, List, [], ℕ, ◌*◌, ◌/◌, ◌≤◌, ℤ, length, get_or}
-use Rattle.definitions.specs.declared.Fault.{Fault}
 use Rattle.definitions.specs.Limits.{entry_limit, generator_limit, exchange_limit, bare_limit, coefficient_limit}
 use Rattle.definitions.specs.Vector.{Vector, within}
 use Rattle.definitions.specs.Group.{Exchange}

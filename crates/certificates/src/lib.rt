@@ -16,14 +16,15 @@ ghost use Rattle.certificates.specs.Tests.{misplaced_fault, rows_fault_in, uncer
 ghost use Rattle.certificates.specs.Tests.{Certifiable, Certificate, Showable, images_fault_in};
 
 use coefficients::has_past;
-use definitions::Fault;
+use definitions::Refusal;
 use definitions::limits::{CELLS, COEFFICIENT_LIMIT, ENTRY_LIMIT, IMAGE_LIMIT};
 use reduction::{Shape, representative};
-use refusals::image_at;
+use refusals::{fault_where, image_at};
 use sorting::precedes;
 use vectors::{equal, is_zero, vector_at, within};
 
 // 17: whether a row is zero, has an entry past the limit, or is not the greatest of its images (Specification 7.2).
+#[tactic(auto, unfolding(definitions::specs::Refusals::is_unfit))]
 fn is_unfit(row: [i32; CELLS], table: &[u8], shape: Shape) -> bool
     requires shaped { Table shape table.now }
     ensures told { result ≡ is_unfit (sequences_in shape table.now) row }
@@ -39,26 +40,20 @@ fn is_unfit(row: [i32; CELLS], table: &[u8], shape: Shape) -> bool
 }
 
 // Refusal 17: the first row that does not fit (Specification 7.2).
-fn unfit_fault(rows: &[i32], table: &[u8], shape: Shape) -> Fault
+fn unfit_fault(rows: &[i32], table: &[u8], shape: Shape) -> Result<(), Refusal>
     requires shaped { Table shape table.now }
     ensures found { result ≡ unfit_fault (sequences_in shape table.now) (vectors_in shape.n rows) }
 {
     let n = shape.n;
-    let count = rows.len() / n;
-    let mut p = 0;
-    while p < count {
-        if is_unfit(vector_at(rows, n, p), table, shape) {
-            return Fault::At {
-                number: 17,
-                place: p as u64,
-            };
-        }
-        p += 1;
-    }
-    Fault::None
+    fault_where(
+        17,
+        rows.len() / n,
+        |p| is_unfit(vector_at(rows, n, p), table, shape),
+    )
 }
 
 // 18: whether row `p` does not come after the row before it (Specification 7.2).
+#[tactic(auto, using(crate::proofs::Tests::misplaced))]
 fn is_misplaced(rows: &[i32], n: usize, p: usize) -> bool
     requires row { (n ≤ cells) × (p < length rows.now / n) }
     ensures told { result ≡ is_misplaced (vectors_in n rows) p }
@@ -72,22 +67,11 @@ fn is_misplaced(rows: &[i32], n: usize, p: usize) -> bool
 }
 
 // Refusal 18: the first row that does not come after the row before it (Specification 7.2).
-fn misplaced_fault(rows: &[i32], n: usize) -> Fault
+fn misplaced_fault(rows: &[i32], n: usize) -> Result<(), Refusal>
     requires cells { (1 ≤ n) × (n ≤ cells) }
     ensures found { result ≡ misplaced_fault (vectors_in n rows) }
 {
-    let count = rows.len() / n;
-    let mut p = 0;
-    while p < count {
-        if is_misplaced(rows, n, p) {
-            return Fault::At {
-                number: 18,
-                place: p as u64,
-            };
-        }
-        p += 1;
-    }
-    Fault::None
+    fault_where(18, rows.len() / n, |p| is_misplaced(rows, n, p))
 }
 
 // Cell `j` of the combination of the generators with these coefficients (Specification 2.2).
@@ -98,16 +82,15 @@ fn combined_cell(coefficients: &[i64], generators: &[i32], n: usize, j: usize) -
     ensures made { result ≡ get_or (combination coefficients.now (vectors_in n generators)) j (pos 0) }
 {
     let mut sum: i64 = 0;
-    let mut q = 0;
-    while q < coefficients.len() {
+    for q in 0..coefficients.len() {
         let entry = generators[q * n + j] as i64;
         sum += coefficients[q] * entry;
-        q += 1;
     }
     sum
 }
 
 // The combination of the generators with these coefficients (Specification 2.2).
+#[tactic(auto, using(crate::proofs::Sums::sum_turn))]
 fn combination(coefficients: &[i64], generators: &[i32], n: usize) -> [i64; CELLS]
     requires cells { n ≤ cells }
     requires sizes { Certificate n generators.now coefficients.now }
@@ -115,10 +98,8 @@ fn combination(coefficients: &[i64], generators: &[i32], n: usize) -> [i64; CELL
     ensures made { result ≡ combination coefficients.now (vectors_in n generators) }
 {
     let mut sum = [0; CELLS];
-    let mut j = 0;
-    while j < n {
+    for j in 0..n {
         sum[j] = combined_cell(coefficients, generators, n, j);
-        j += 1;
     }
     sum
 }
@@ -127,20 +108,14 @@ fn combination(coefficients: &[i64], generators: &[i32], n: usize) -> [i64; CELL
 fn equals_row(sum: [i64; CELLS], row: [i32; CELLS]) -> bool
     ensures told { result ≡ equal sum row }
 {
-    let mut j = 0;
-    while j < CELLS {
-        let cell = sum[j];
-        let entry = row[j] as i64;
-        if cell != entry {
-            return false;
-        }
-        j += 1;
-    }
-    true
+    sum.iter()
+        .zip(&row)
+        .all(|(cell, entry)| *cell == i64::from(*entry))
 }
 
 // 19 and 23: whether a coefficient is past the limit, or the combination is not the vector; nothing is multiplied with
 // a coefficient past the limit (Specification 7.2).
+#[tactic(auto, unfolding(definitions::specs::Refusals::is_uncertified))]
 fn is_uncertified(
     coefficients: &[i64],
     generators: &[i32],
@@ -161,37 +136,37 @@ fn is_uncertified(
 }
 
 // Refusal 19: the first row without a certificate (Specification 7.2).
-fn uncertified_fault(generators: &[i32], rows: &[i32], coefficients: &[i64], n: usize) -> Fault
+fn uncertified_fault(
+    generators: &[i32],
+    rows: &[i32],
+    coefficients: &[i64],
+    n: usize,
+) -> Result<(), Refusal>
     requires cells { (1 ≤ n) × (n ≤ cells) }
     requires sizes { Certifiable n generators.now rows.now coefficients.now }
     ensures found { result ≡ uncertified_fault (vectors_in n generators) (vectors_in n rows) coefficients.now }
 {
-    let count = rows.len() / n;
     let width = generators.len() / n;
-    let mut p = 0;
-    while p < count {
+    fault_where(19, rows.len() / n, |p| {
         let row = vector_at(rows, n, p);
         let from = p * width;
-        let to = from + width;
-        if is_uncertified(
-            &coefficients[from..to],
+        is_uncertified(
+            &coefficients[from..from + width],
             generators,
             n,
             row,
             COEFFICIENT_LIMIT,
-        ) {
-            return Fault::At {
-                number: 19,
-                place: p as u64,
-            };
-        }
-        p += 1;
-    }
-    Fault::None
+        )
+    })
 }
 
 // Refusal 23: the first image of a generator that is not shown by its coefficients (Specification 7.2).
-pub fn images_fault(n: usize, generators: &[i32], exchanges: &[u8], images: &[i64]) -> Fault
+pub fn images_fault(
+    n: usize,
+    generators: &[i32],
+    exchanges: &[u8],
+    images: &[i64],
+) -> Result<(), Refusal>
     requires cells { (1 ≤ n) × (n ≤ cells) }
     requires valid { AllExchanges n (rows_of n exchanges.now) }
     requires sizes { Showable n generators.now exchanges.now images.now }
@@ -199,46 +174,35 @@ pub fn images_fault(n: usize, generators: &[i32], exchanges: &[u8], images: &[i6
 {
     let width = generators.len() / n;
     let count = exchanges.len() / n * width;
-    let mut i = 0;
-    while i < count {
-        let q = i % width;
-        let v = vector_at(generators, n, q);
+    fault_where(23, count, |i| {
+        let v = vector_at(generators, n, i % width);
         let image = image_at(v, exchanges, n, i / width);
         let from = i * width;
-        let to = from + width;
-        if is_uncertified(&images[from..to], generators, n, image, IMAGE_LIMIT) {
-            return Fault::At {
-                number: 23,
-                place: i as u64,
-            };
-        }
-        i += 1;
-    }
-    Fault::None
+        is_uncertified(
+            &images[from..from + width],
+            generators,
+            n,
+            image,
+            IMAGE_LIMIT,
+        )
+    })
 }
 
 // Refusals 17 to 19 of a brought list, with a group's table (Specification 5.1 and 7.2).
+#[tactic(auto, unfolding(definitions::specs::Refusals::rows_fault, definitions::specs::Refusals::first_fault))]
 pub fn rows_fault(
     generators: &[i32],
     rows: &[i32],
     coefficients: &[i64],
     table: &[u8],
     shape: Shape,
-) -> Fault
+) -> Result<(), Refusal>
     requires shaped { Table shape table.now }
     requires sizes { Certifiable shape.n generators.now rows.now coefficients.now }
     ensures found { result ≡ rows_fault_in shape generators rows coefficients table }
 {
     let n = shape.n;
-    let unfit = unfit_fault(rows, table, shape);
-    match unfit {
-        Fault::At { number, place } => Fault::At { number, place },
-        Fault::None => {
-            let misplaced = misplaced_fault(rows, n);
-            match misplaced {
-                Fault::At { number, place } => Fault::At { number, place },
-                Fault::None => uncertified_fault(generators, rows, coefficients, n),
-            }
-        }
-    }
+    unfit_fault(rows, table, shape)?;
+    misplaced_fault(rows, n)?;
+    uncertified_fault(generators, rows, coefficients, n)
 }

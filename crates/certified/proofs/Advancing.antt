@@ -1,5 +1,8 @@
 -- One sum: what the step of the completion comes to, and what is noted of a row that it stores (Specification 3.2 to 3.4
 -- and 3.7). Assumes nothing.
+use Rattle.std.specs.declared.result.Result.TheVariants.{Err}
+use Rattle.definitions.specs.declared.Refusal.{Refusal}
+use Rattle.definitions.specs.Refusals.{Outcome, accepted, refused}
 use mathlib.Core.Path.{◌≡◌, refl, sym, ◌∙◌, ap, subst}
 use mathlib.Core.Logic.{◌⊎◌, inl, inr}
 use mathlib.Core.Bool.{Bool, true, false, cond, ◌||◌}
@@ -38,8 +41,6 @@ use Rattle.reduction.specs.Marks.{Marked}
 use Rattle.reduction.proofs.Lent.{sequences-count}
 use Rattle.completion.specs.declared.Sizes.{Sizes}
 use Rattle.completion.specs.declared.State.{State}
-use Rattle.completion.specs.declared.Completion.{Completion}
-use Rattle.completion.specs.declared.Completion.TheVariants.{Running, Stopped}
 use Rattle.completion.specs.Machine.{After, Areas, Ready, Summable, remainder_in, state_in, state_of, stepped_in}
 use Rattle.completion.proofs.Facts.{areas-again, left-rows, rows_are, rows-ready, summable}
 use Rattle.completion.proofs.Sums.{summable-by}
@@ -51,7 +52,7 @@ use Rattle.certified.proofs.Prefix.{chunks-last, marked-before, rows_before}
 
 -- the same areas, for another name of the end
 pub certified-same : {shape : Shape} {table : List ℕ} {list : List ℤ} {marks keys : List ℕ} {basis coefficients : List ℤ}
-    {x y : CertifiedCompletion} {r : Completion} → x ≡ y → CertifiedTo shape table list marks keys basis coefficients x r
+    {x y : CertifiedCompletion} {r : Outcome State} → x ≡ y → CertifiedTo shape table list marks keys basis coefficients x r
     → CertifiedTo shape table list marks keys basis coefficients y r
 certified-same {shape} {table} {list} {marks} {keys} {basis} {coefficients} {r = r} e C =
     subst (λ (z : CertifiedCompletion). CertifiedTo shape table list marks keys basis coefficients z r) e C
@@ -107,7 +108,7 @@ module _ {sizes : Sizes} {table : List ℕ} {list : List ℤ} {marks keys : List
 
   -- it came to t
   module _ {list' : List ℤ} {marks' keys' : List ℕ} (t : State)
-      (A : After shape table list' marks' keys' (stepped_in sizes table list s) (Running t)) where
+      (A : After shape table list' marks' keys' (stepped_in sizes table list s) (accepted t)) where
     abbrev later : Defined.State
     later = state_in shape.n list' t
 
@@ -211,11 +212,11 @@ module _ {sizes : Sizes} {table : List ℕ} {list : List ℤ} {marks keys : List
   advanced = advanced_in sizes table list basis coefficients s
 
   -- the step was turned down
-  pub advanced-stop : {list' : List ℤ} {marks' keys' : List ℕ} (coefficients' : List ℤ) (number place : ℕ)
-      → After sizes.shape table list' marks' keys' (stepped_in sizes table list s) (Stopped number place)
-      → CertifiedTo sizes.shape table list' marks' keys' basis coefficients' advanced (Stopped number place)
+  pub advanced-stop : {list' : List ℤ} {marks' keys' : List ℕ} {coefficients' : List ℤ} {r : Refusal}
+      → After sizes.shape table list' marks' keys' (stepped_in sizes table list s) (Err r)
+      → CertifiedTo sizes.shape table list' marks' keys' basis coefficients' advanced (Err r)
   unfolding certified_step certified_from certified_after
-  advanced-stop coefficients' number place A = record {
+  advanced-stop A = record {
     after = record {
       answer = ap (λ (c : Defined.Completion). (certified_after generators sequences before known c).completion) A.answer;
       held = tt;
@@ -224,7 +225,7 @@ module _ {sizes : Sizes} {table : List ℕ} {list : List ℤ} {marks keys : List
   }
 
   module _ {list' : List ℤ} {marks' keys' : List ℕ} (t : State)
-      (A : After sizes.shape table list' marks' keys' (stepped_in sizes table list s) (Running t)) where
+      (A : After sizes.shape table list' marks' keys' (stepped_in sizes table list s) (accepted t)) where
     abbrev then : Defined.State
     then = state_in n list' t
 
@@ -242,7 +243,7 @@ module _ {sizes : Sizes} {table : List ℕ} {list : List ℤ} {marks keys : List
     -- it came to t, with coefficients that are noted
     ran_on : {coefficients' : List ℤ} (due : List (List ℤ)) → advanced ≡ onward due
         → NotedRows n basis t.stored coefficients' due
-        → CertifiedTo sizes.shape table list' marks' keys' basis coefficients' advanced (Running t)
+        → CertifiedTo sizes.shape table list' marks' keys' basis coefficients' advanced (accepted t)
     ran_on due e N = certified-same (sym e) (record { after = record { answer = refl; held = A.held }; noted = N })
 
     now-rows : length then.rows ≡ t.stored
@@ -250,7 +251,7 @@ module _ {sizes : Sizes} {table : List ℕ} {list : List ℤ} {marks keys : List
 
     -- no row was stored
     pub advanced-kept : Limited n basis s.stored coefficients → t.stored ≤ s.stored
-        → CertifiedTo sizes.shape table list' marks' keys' basis coefficients advanced (Running t)
+        → CertifiedTo sizes.shape table list' marks' keys' basis coefficients advanced (accepted t)
     advanced-kept L h =
         let e = same-stored R left t A h in
         ran_on known
@@ -280,7 +281,7 @@ module _ {sizes : Sizes} {table : List ℕ} {list : List ℤ} {marks keys : List
       -- they stand behind the others
       stands : {coefficients' : List ℤ} → Limited n basis s.stored coefficients
           → noted_in n basis (s.stored + 1) coefficients' ≡ known ++ new ∷ [] → within stored_coefficient_limit new ≡ true
-          → CertifiedTo sizes.shape table list' marks' keys' basis coefficients' advanced (Running t)
+          → CertifiedTo sizes.shape table list' marks' keys' basis coefficients' advanced (accepted t)
       stands {coefficients'} L e w =
           let count : t.stored ≡ s.stored + 1 = stored_next R left t A more in
           let due = ap (λ (k : ℕ). noted_in n basis k coefficients') count ∙ e in
@@ -301,19 +302,19 @@ module _ {sizes : Sizes} {table : List ℕ} {list : List ℤ} {marks keys : List
         told = ap (within stored_coefficient_limit) (sym new-same) ∙ sym N.told
 
         pub advanced-noted : Limited n basis s.stored coefficients → r ≡ true
-            → CertifiedTo sizes.shape table list' marks' keys' basis coefficients' advanced (Running t)
+            → CertifiedTo sizes.shape table list' marks' keys' basis coefficients' advanced (accepted t)
         advanced-noted L e = stands L (N.rows ∙ ap (λ (c : List ℤ). known ++ c ∷ []) new-same) (told ∙ e)
 
         -- one is past its limit
         pub advanced-past : r ≡ false
-            → CertifiedTo sizes.shape table list' marks' keys' basis coefficients' advanced (Stopped 24 t.sums)
+            → CertifiedTo sizes.shape table list' marks' keys' basis coefficients' advanced (refused 24 t.sums)
         advanced-past e =
             certified-same (sym (tested (told ∙ e)))
             (record { after = record { answer = ap (stopped 24) (sums_next R left t A); held = tt }; noted = tt })
 
     -- with an empty basis nothing is noted
     pub advanced-bare : Limited n basis s.stored coefficients → length basis ≡ 0
-        → CertifiedTo sizes.shape table list' marks' keys' basis coefficients advanced (Running t)
+        → CertifiedTo sizes.shape table list' marks' keys' basis coefficients advanced (accepted t)
     advanced-bare L none = go (dec_lt s.stored t.stored)
       where
         width-none : width_of n basis ≡ 0
@@ -325,7 +326,7 @@ module _ {sizes : Sizes} {table : List ℕ} {list : List ℤ} {marks keys : List
             ∙ new-empty sequences before known
 
         go : Dec (s.stored < t.stored)
-            → CertifiedTo sizes.shape table list' marks' keys' basis coefficients advanced (Running t)
+            → CertifiedTo sizes.shape table list' marks' keys' basis coefficients advanced (accepted t)
         go (yes more) =
             stands more L
             (chunks-last (width_of n basis) s.stored coefficients
@@ -336,11 +337,11 @@ module _ {sizes : Sizes} {table : List ℕ} {list : List ℤ} {marks keys : List
     -- so where the code's test holds nothing is noted
     pub advanced-quiet : Limited n basis s.stored coefficients
         → (eqb (length basis) 0 || leb t.stored s.stored) ≡ true
-        → CertifiedTo sizes.shape table list' marks' keys' basis coefficients advanced (Running t)
+        → CertifiedTo sizes.shape table list' marks' keys' basis coefficients advanced (accepted t)
     advanced-quiet L e = go (eqb (length basis) 0) refl e
       where
         go : (b : Bool) → eqb (length basis) 0 ≡ b → (b || leb t.stored s.stored) ≡ true
-            → CertifiedTo sizes.shape table list' marks' keys' basis coefficients advanced (Running t)
+            → CertifiedTo sizes.shape table list' marks' keys' basis coefficients advanced (accepted t)
         go true none f = advanced-bare L (eqb-true (length basis) 0 none)
         go false some f = advanced-kept L (leb-true t.stored s.stored f)
 

@@ -1,5 +1,8 @@
 -- Step 1 with the coefficients of its rows, and then the run of its first state (Specification 3.1 to 3.4 and 3.7). Assumes
 -- nothing.
+use Rattle.std.specs.declared.result.Result.TheVariants.{Err}
+use Rattle.definitions.specs.declared.Refusal.{Refusal}
+use Rattle.definitions.specs.Refusals.{Outcome, accepted}
 use mathlib.Core.Path.{◌≡◌, refl, sym, ◌∙◌, ap, ap₂, subst}
 use mathlib.Core.List.{List, [], ◌∷◌, map}
 use Prim.Native.Nat.{ℕ, zero, suc, ◌/◌, ◌≤◌, ◌<◌}
@@ -28,8 +31,6 @@ use Rattle.certified_theory.proofs.Stopping.{until-over}
 use Rattle.reduction.specs.Areas.{sequences_in}
 use Rattle.completion.specs.declared.Sizes.{Sizes}
 use Rattle.completion.specs.declared.State.{State}
-use Rattle.completion.specs.declared.Completion.{Completion}
-use Rattle.completion.specs.declared.Completion.TheVariants.{Running, Stopped}
 use Rattle.completion.specs.Machine.{Admissible, After, Areas, Ready, begun_in, state_in}
 use Rattle.completion.proofs.Facts.{areas-again, setting-of}
 use Rattle.certified.specs.Noting.{CertifiedTo, FirstStored, Notable, NotedRows, completed_in, first_coefficients}
@@ -89,18 +90,18 @@ start_in sizes table generators basis =
 
 module _ (sizes : Sizes) {table : List ℕ} {list : List ℤ} {marks keys : List ℕ} (generators basis : List ℤ) where
   -- step 1 was turned down
-  pub joined-stop : (coefficients : List ℤ) (number place : ℕ)
-      → After sizes.shape table list marks keys (begun_in sizes table generators) (Stopped number place)
-      → CertifiedTo sizes.shape table list marks keys basis coefficients (completed_in sizes table generators basis) (Stopped number place)
+  pub joined-stop : {coefficients : List ℤ} {r : Refusal}
+      → After sizes.shape table list marks keys (begun_in sizes table generators) (Err r)
+      → CertifiedTo sizes.shape table list marks keys basis coefficients (completed_in sizes table generators basis) (Err r)
   unfolding certified_completed certified_begun
-  joined-stop coefficients number place B =
+  joined-stop B =
       let start = start_in sizes table generators basis in
       let over = stopped-over start B.answer in
       certified-same (sym (until-over is_over_certified (turn sizes table basis) (all_sums sizes table) start over))
       (record { after = record { answer = B.answer; held = tt }; noted = tt })
 
   -- step 1 came to the first state
-  module _ (first : State) (B : After sizes.shape table list marks keys (begun_in sizes table generators) (Running first)) where
+  module _ (first : State) (B : After sizes.shape table list marks keys (begun_in sizes table generators) (accepted first)) where
     abbrev n : ℕ
     n = sizes.shape.n
 
@@ -184,7 +185,7 @@ module _ (sizes : Sizes) {table : List ℕ} {list : List ℤ} {marks keys : List
       }
 
       -- the run of the first state
-      pub joined-run : {list' : List ℤ} {marks' keys' : List ℕ} {coefficients' : List ℤ} {r : Completion}
+      pub joined-run : {list' : List ℤ} {marks' keys' : List ℕ} {coefficients' : List ℤ} {r : Outcome State}
           → CertifiedTo sizes.shape table list' marks' keys' basis coefficients' (ran_in sizes table list basis coefficients first) r
           → CertifiedTo sizes.shape table list' marks' keys' basis coefficients' (completed_in sizes table generators basis) r
       unfolding certified_completed certified_begun

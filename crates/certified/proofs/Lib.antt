@@ -2,6 +2,7 @@
 pub mod Made
 pub mod Noted
 pub mod Storing
+pub mod Summing
 pub mod Generators
 pub mod Firsts
 pub mod FirstNotes

@@ -6,7 +6,7 @@ use Prim.Native.Nat.{ℕ, suc, ◌+◌, ◌-◌, ◌*◌, ◌≤◌, ◌<◌}
 use native.Mathlib.Numerals.{add-one}
 use native.Mathlib.Omega.{arith}
 use native.Mathlib.Nat.{mul-le-mul_right}
-use borrow.Rule.Slice.PartMut.{post_of, Post-is, put_mid, same_len_mid}
+use borrow.Rule.Slice.PartMut.{post_of, Post-is, put_mid}
 use lib.IntN.{ℤ, pos}
 use lib.ListN.{length, get_or, take, drop, replicate}
 use lib.Seq.{drop_at, length-take-le, paste, take_all, take_at}
@@ -85,9 +85,6 @@ module _ {shape : Shape} (k : ℕ) {table : List ℕ} {basis coefficients : List
     -- with the row's coefficients there
     abbrev pub put : List ℤ
     put = put_mid (k * m) (k * m + m - k * m) coefficients row
-
-    pub put-long : length put ≡ length coefficients
-    put-long = same_len_mid (k * m) (k * m + m - k * m) coefficients row (long ∙ sym last-long)
 
     pub put-rows : noted_in shape.n basis (k + 1) put ≡ noted_in shape.n basis k coefficients ++ row ∷ []
     put-rows =

@@ -1,17 +1,18 @@
 -- The row that is stored for a sum, and its coefficients: how large the numbers on the way get, and what is noted
 -- (Specification 3.2 to 3.4 and 3.7). Assumes nothing.
-use mathlib.Core.Path.{◌≡◌, refl, sym, ◌∙◌, ap}
+use mathlib.Core.Path.{◌≡◌, refl, sym, ◌∙◌, ap, ap₂}
 use mathlib.Core.Bool.{Bool, true, false, not, ◌&&◌, ◌||◌}
-use mathlib.Core.List.{List, [], ◌∷◌, map}
-use Prim.Native.Nat.{ℕ, ◌+◌, ◌*◌, ◌≤◌, ◌<◌}
+use mathlib.Core.List.{List, [], ◌∷◌, ◌++◌, map}
+use Prim.Native.Nat.{ℕ, ◌+◌, ◌-◌, ◌*◌, ◌≤◌, ◌<◌}
 use native.Mathlib.Omega.{arith}
 use native.Mathlib.Nat.{mul-le-mul_right}
 use lib.Dec.{leb}
 use lib.IntN.{ℤ, nat_abs}
 use lib.ListN.{length, get_or, take, drop, length-map, length-take}
-use Rattle.definitions.specs.Limits.{cells, entry_limit}
+use lib.Seq.{take_at}
+use Rattle.definitions.specs.Limits.{cells, entry_limit, stored_coefficient_limit}
 use Rattle.definitions.specs.Lists.{any, every}
-use Rattle.definitions.specs.Vector.{Vector, is_member, weight, within}
+use Rattle.definitions.specs.Vector.{Vector, is_member, padded, weight, within}
 use Rattle.definitions.specs.Group.{Exchange, exchanged}
 use Rattle.definitions.specs.Orbit.{orbit, orbits, representative, signed}
 use Rattle.definitions.specs.Completion.{remainder, subtracted, sum_at, sum_of}
@@ -40,8 +41,8 @@ use Rattle.coefficients.specs.Carrying.{Carriable, remainder_coefficients, row_c
 use Rattle.completion.specs.declared.State.{State}
 use Rattle.completion.specs.Machine.{remainder_in, sum_in}
 use Rattle.completion.proofs.Sums.{j-stored, sum-limited, sum-within}
-use Rattle.certified.specs.Noting.{Limited, Notable, RowStored, new_in, noted_in, sum_coefficients_in, width_of}
-use Rattle.certified.proofs.Noted.{each_light, noted-light}
+use Rattle.certified.specs.Noting.{Limited, Notable, RowNoted, RowStored, new_in, noted_in, sum_coefficients_in, width_of}
+use Rattle.certified.proofs.Noted.{each_light, noted-light, put, put-row, put-rows}
 
 -- ---- the limit
 
@@ -110,9 +111,18 @@ module _ {shape : Shape} {table : List ℕ} {list : List ℤ} {marks keys : List
   pub rest-limited : within headroom rest ≡ true
   rest-limited = rest-within headroom rest sum left.below-it (sum-limited R.summable.formable)
 
-  -- the row is an image of the remainder
-  pub row_made : (row v : Vector) → row ≡ representative G rest → v ≡ rest → is_member row (orbit G v) ≡ true
-  row_made row v e f = rw (e, f) (R.made rest (⊑-length left.below-it ∙ sum-long))
+  -- the remainder as it is computed, and its row as it is read
+  module _ {u v row : Vector} (sum-is : u ≡ sum) (rest_of : v ≡ remainder G rows u)
+      (read : row ≡ padded (take shape.n (drop (s.stored * shape.n) list))) where
+    rest-is : v ≡ rest
+    rest-is = rest_of ∙ ap (remainder G rows) sum-is
+
+    row-is : row ≡ representative G rest
+    row-is = read ∙ row_at shape.n (s.stored + 1) s.stored list (omega arith) ∙ R.row
+
+    -- the row is an image of the remainder
+    pub row_made : is_member row (orbit G v) ≡ true
+    row_made = rw (row-is, rest-is) (R.made rest (⊑-length left.below-it ∙ sum-long))
 
   module _ {basis coefficients : List ℤ} (N : Notable shape (s.stored + 1) table basis coefficients)
       (L : Limited shape.n basis s.stored coefficients) where
@@ -158,21 +168,25 @@ module _ {shape : Shape} {table : List ℕ} {list : List ℤ} {marks keys : List
     abbrev extent : Extent
     extent = record { shape = shape; k = s.stored }
 
-    -- the sum can be reduced
-    pub carriable : (v : Vector) (from : List ℤ) → v ≡ sum → from ≡ sum_cs → length from ≡ m
-        → Carriable extent table basis coefficients v from
-    carriable v from e f l = record {
-      closed = N.closed;
-      one_each = l;
-      holds = notable.room;
-      light = each_light notable L;
-      room = rw (e, f) room;
-    }
+    -- the sum's coefficients stand in the first places of an array
+    module _ {v : Vector} {summed : List ℤ} (a : List ℤ) (e : v ≡ sum) (made : summed ≡ sum_cs) (long : length summed ≡ m) where
+      summed-is : take m (summed ++ a) ≡ summed
+      summed-is = take_at summed a m long
 
-    abbrev pub rest_cs : List ℤ
+      -- it can be reduced
+      pub carriable : Carriable extent table basis coefficients v (take m (summed ++ a))
+      carriable = record {
+        closed = N.closed;
+        one_each = ap length summed-is ∙ long;
+        holds = notable.room;
+        light = each_light notable L;
+        room = rw (e, summed-is ∙ made) room;
+      }
+
+    abbrev rest_cs : List ℤ
     rest_cs = remainder_coefficients extent table list basis coefficients sum sum_cs
 
-    pub rest-light : weight rest_cs ≤ widest
+    rest-light : weight rest_cs ≤ widest
     unfolding certified_remainder
     rest-light =
         let known = certified_orbits generators G (certified_rows rows noted) in
@@ -187,8 +201,29 @@ module _ {shape : Shape} {table : List ℕ} {list : List ℤ} {marks keys : List
           room,
         )
 
+    -- and so do those of the remainder
+    module _ {v : Vector} {summed carried : List ℤ} (a b : List ℤ) (e : v ≡ sum) (made : summed ≡ sum_cs) (long : length summed ≡ m)
+        (left-is : carried ≡ remainder_coefficients extent table list basis coefficients v (take m (summed ++ a)))
+        (same : length carried ≡ length (take m (summed ++ a))) where
+      pub carried-is : take m (carried ++ b) ≡ rest_cs
+      carried-is =
+          take_at carried b m (same ∙ ap length (summed-is a e made long) ∙ long) ∙ left-is
+          ∙ ap₂ (remainder_coefficients extent table list basis coefficients) e (summed-is a e made long ∙ made)
+
+      pub carried-light : weight (take m (carried ++ b)) ≤ widest
+      carried-light = rw carried-is rest-light
+
     -- what is noted
-    pub new_is : (row v : Vector) (from : List ℤ) → row ≡ representative G rest → v ≡ rest → from ≡ rest_cs
+    pub new_is : {u v row : Vector} → u ≡ sum → v ≡ remainder G rows u
+        → row ≡ padded (take shape.n (drop (s.stored * shape.n) list)) → {from : List ℤ} → from ≡ rest_cs
         → row_coefficients_in shape table basis row v from ≡ new_in shape table list basis coefficients s
     unfolding new_coefficients certified_row certified_remainder certified_sum
-    new_is row v from e f g = rw (e, f, g)
+    new_is e f r g = rw (row-is e f r, rest-is e f r, g)
+
+    pub row-noted : (new : List ℤ) (long : length new ≡ m) → new ≡ new_in shape table list basis coefficients s → {b : Bool}
+        → b ≡ any (is_past stored_coefficient_limit) (take (s.stored * m + m - s.stored * m) (drop (s.stored * m) (put s.stored N new long)))
+        → RowNoted shape table list basis s coefficients (put s.stored N new long) (not b)
+    row-noted new long is told = record {
+      told = ap not (told ∙ ap (any (is_past stored_coefficient_limit)) (put-row s.stored N new long ∙ is)) ∙ none-past stored_coefficient_limit _;
+      rows = put-rows s.stored N new long ∙ ap (λ (l : List ℤ). noted ++ l ∷ []) is;
+    }

@@ -1,5 +1,8 @@
 -- One turn of the run, and its end (Specification 3.2 to 3.4 and 3.7). Assumes nothing.
-use mathlib.Core.Path.{◌≡◌, refl, sym, ◌∙◌, ap, ap₂, subst}
+use Rattle.std.specs.declared.result.Result.TheVariants.{Err}
+use Rattle.definitions.specs.declared.Refusal.{Refusal}
+use Rattle.definitions.specs.Refusals.{accepted}
+use mathlib.Core.Path.{◌≡◌, refl, sym, ◌∙◌, ap, ap₂}
 use mathlib.Core.Logic.{inl, inr}
 use mathlib.Core.Bool.{true}
 use mathlib.Core.List.{List}
@@ -18,15 +21,12 @@ use Rattle.definitions.specs.Lent.{vectors_of}
 use Rattle.theory.proofs.Counting.{fewer}
 use Rattle.certified_theory.proofs.Forgetting.{Follows, step_follows}
 use Rattle.certified_theory.proofs.Stopping.{until-over, until-turn}
-use Rattle.reduction.specs.declared.Shape.{Shape}
 use Rattle.reduction.specs.Areas.{sequences_in}
 use Rattle.completion.specs.declared.Sizes.{Sizes}
 use Rattle.completion.specs.declared.State.{State}
-use Rattle.completion.specs.declared.Completion.{Completion}
-use Rattle.completion.specs.declared.Completion.TheVariants.{Running, Stopped}
 use Rattle.completion.specs.Machine.{After, Ready, state_in, stepped_in}
 use Rattle.completion.proofs.Facts.{areas-again, left-rows, rows_are}
-use Rattle.certified.specs.Noting.{CertifiedTo, Limited, Notable, advanced_in, ran_in, standing_in}
+use Rattle.certified.specs.Noting.{CertifiedTo, Limited, Notable, advanced_in, standing_in}
 use Rattle.certified.proofs.Advancing.{certified-same, notable-again, sound-next, sums_next, unfinished}
 
 -- a completion that was turned down is over
@@ -53,21 +53,6 @@ pub record Looped (sizes : Sizes) (table : List ℕ) (list : List ℤ) (marks ke
   pub same : until is_over_certified (turn sizes table basis) (all_sums sizes table - s.sums)
       (standing_in sizes.shape list basis coefficients s) ≡ end
 
-pub looped-start : {sizes : Sizes} {table : List ℕ} {list : List ℤ} {marks keys : List ℕ} {basis coefficients : List ℤ}
-    {s : State} → Ready sizes table list marks keys s → s.sums ≡ 0
-    → Notable sizes.shape sizes.limit table basis coefficients
-    → Limited sizes.shape.n basis s.stored coefficients
-    → Looped sizes table list marks keys basis coefficients s (ran_in sizes table list basis coefficients s)
-looped-start {sizes} {table} {list} {basis = basis} {coefficients = coefficients} {s = s} R e N L =
-    let k : all_sums sizes table - s.sums ≡ all_sums sizes table = omega arith in
-    let x = standing_in sizes.shape list basis coefficients s in
-    record {
-      ready = R;
-      notable = N;
-      limited = L;
-      same = ap (λ (m : ℕ). until is_over_certified (turn sizes table basis) m x) k;
-    }
-
 module _ {sizes : Sizes} {table : List ℕ} {list : List ℤ} {marks keys : List ℕ} {basis coefficients : List ℤ} {s : State}
     {end : CertifiedCompletion} (L : Looped sizes table list marks keys basis coefficients s end) where
   abbrev G : List Exchange
@@ -87,7 +72,7 @@ module _ {sizes : Sizes} {table : List ℕ} {list : List ℤ} {marks keys : List
 
   -- no sum is left
   pub looped-end : s.stored ≤ s.i
-      → CertifiedTo sizes.shape table list marks keys basis coefficients end (Running s)
+      → CertifiedTo sizes.shape table list marks keys basis coefficients end (accepted s)
   unfolding is_over_certified is_over is_finished
   looped-end h =
       let over = le-leb (length state.rows) s.i (omega (arith, rows_are L.ready)) in
@@ -117,22 +102,22 @@ module _ {sizes : Sizes} {table : List ℕ} {list : List ℤ} {marks keys : List
 
     module _ {list' : List ℤ} {marks' keys' : List ℕ} {coefficients' : List ℤ} where
       -- the sum was turned down
-      pub looped-stop : (number place : ℕ)
-          → CertifiedTo sizes.shape table list' marks' keys' basis coefficients' advanced (Stopped number place)
-          → CertifiedTo sizes.shape table list' marks' keys' basis coefficients' end (Stopped number place)
-      looped-stop number place A =
+      pub looped-stop : {r : Refusal}
+          → CertifiedTo sizes.shape table list' marks' keys' basis coefficients' advanced (Err r)
+          → CertifiedTo sizes.shape table list' marks' keys' basis coefficients' end (Err r)
+      looped-stop A =
           let over = stopped-over advanced A.after.answer in
           let e = open-run ∙ until-over is_over_certified (turn sizes table basis) (all - (s.sums + 1)) advanced over in
           certified-same (sym e) A
 
       -- the sum came to t
       module _ (t : State)
-          (A : CertifiedTo sizes.shape table list' marks' keys' basis coefficients' advanced (Running t)) where
+          (A : CertifiedTo sizes.shape table list' marks' keys' basis coefficients' advanced (accepted t)) where
         abbrev later : Defined.State
         later = state_in sizes.shape.n list' t
 
         -- .. and so did the step of the completion
-        stepped : After sizes.shape table list' marks' keys' (stepped_in sizes table list s) (Running t)
+        stepped : After sizes.shape table list' marks' keys' (stepped_in sizes table list s) (accepted t)
         stepped = record { answer = go (step_follows generators G sizes.limit standing); held = A.after.held }
           where
             go : Follows (stepped_in sizes table list s) advanced → running later ≡ stepped_in sizes table list s
@@ -168,15 +153,3 @@ module _ {sizes : Sizes} {table : List ℕ} {list : List ℤ} {marks keys : List
         -- and fewer sums are left
         pub looped-less : all - t.sums < all - s.sums
         looped-less = omega (arith, few, sums_next L.ready left t stepped)
-
--- ---- the same areas, for an answer by its case
-
-pub after_is : {shape : Shape} {table : List ℕ} {list : List ℤ} {marks keys : List ℕ} {c : Defined.Completion} {r t : Completion}
-    → After shape table list marks keys c r → r ≡ t → After shape table list marks keys c t
-after_is {shape} {table} {list} {marks} {keys} {c} A e = subst (After shape table list marks keys c) e A
-
-pub certified-is : {shape : Shape} {table : List ℕ} {list : List ℤ} {marks keys : List ℕ} {basis coefficients : List ℤ}
-    {x : CertifiedCompletion} {r t : Completion} → CertifiedTo shape table list marks keys basis coefficients x r → r ≡ t
-    → CertifiedTo shape table list marks keys basis coefficients x t
-certified-is {shape} {table} {list} {marks} {keys} {basis} {coefficients} {x} A e =
-    subst (CertifiedTo shape table list marks keys basis coefficients x) e A

@@ -1,5 +1,7 @@
 -- The completion with the coefficients of its stored rows, on lent areas (Specification 3.1 to 3.4 and 3.7). With an
 -- empty basis it is the completion, and there are no coefficients. Assumes nothing.
+use Rattle.definitions.specs.Refusals.{Outcome, accepted}
+use Rattle.std.specs.declared.result.Result.TheVariants.{Err}
 use Rattle.std.specs.Prelude.{◌≡◌, Bool, true, List, [], ◌∷◌, ◌++◌, ℕ, ◌+◌, ◌*◌, ◌/◌, ◌≤◌, ℤ, length, get_or}
 use Rattle.definitions.specs.Limits.{cells, stored_coefficient_limit}
 use Rattle.definitions.specs.Lists.{until}
@@ -18,8 +20,6 @@ use Rattle.reduction.specs.Areas.{rows_at, sequences_in}
 use Rattle.coefficients.specs.Carrying.{ClosedBasis}
 use Rattle.completion.specs.declared.Sizes.{Sizes}
 use Rattle.completion.specs.declared.State.{State}
-use Rattle.completion.specs.declared.Completion.{Completion}
-use Rattle.completion.specs.declared.Completion.TheVariants.{Running, Stopped}
 use Rattle.completion.specs.Machine.{After, Summable, remainder_in, state_in}
 
 -- the number of coefficients to a row
@@ -140,12 +140,12 @@ pub record NotedRows (n : ℕ) (basis : List ℤ) (k : ℕ) (coefficients : List
   pub rows : noted_in n basis k coefficients ≡ due
   pub limited : Limited n basis k coefficients
 
-abbrev pub NotedBy : (n : ℕ) (basis coefficients : List ℤ) (due : List (List ℤ)) → Completion → Type 0
-NotedBy n basis coefficients due (Running s) = NotedRows n basis s.stored coefficients due
-NotedBy n basis coefficients due (Stopped number place) = Unit {0}
+abbrev pub NotedBy : (n : ℕ) (basis coefficients : List ℤ) (due : List (List ℤ)) → Outcome State → Type 0
+NotedBy n basis coefficients due (accepted s) = NotedRows n basis s.stored coefficients due
+NotedBy n basis coefficients due (Err r) = Unit {0}
 
 -- the areas after a completion came to r, which is x of the definition
 pub record CertifiedTo (shape : Shape) (table : List ℕ) (list : List ℤ) (marks keys : List ℕ)
-    (basis coefficients : List ℤ) (x : CertifiedCompletion) (r : Completion) : Type 0 where
+    (basis coefficients : List ℤ) (x : CertifiedCompletion) (r : Outcome State) : Type 0 where
   pub after : After shape table list marks keys x.completion r
   pub noted : NotedBy shape.n basis coefficients x.coefficients r

@@ -11,13 +11,13 @@ ghost use Rattle.certified.specs.Noting.{advanced_in, completed_in, first_coeffi
 ghost use Rattle.certified.specs.Noting.{sum_coefficients_in, width_of};
 
 use coefficients::{
-    add_counted, add_image, add_times, clear_coefficients, has_past, reduce_certified,
-    row_coefficients,
+    add_counted, add_image, add_times, has_past, reduce_certified, row_coefficients,
 };
-use completion::{Completion, Sizes, State, begin, step, sum_at};
+use completion::{Sizes, State, begin, step, sum_at};
+use definitions::Refusal;
 use definitions::limits::{GENERATOR_LIMIT, STORED_COEFFICIENT_LIMIT};
 use reduction::{Extent, Shape, representative};
-use vectors::{equal, load, vector_at};
+use vectors::{clear, equal, load, vector_at};
 
 // The coefficients of the sum that `s` tries: those of row i, and of the image of row j (Specification 3.2).
 fn sum_coefficients(
@@ -41,7 +41,7 @@ fn sum_coefficients(
     let from = s.j * m;
     let at = s.position * n;
     let sign = if s.positive { 1 } else { 0 - 1 };
-    clear_coefficients(&mut *into, 0);
+    clear(&mut *into, 0, 0);
     add_times(1, &coefficients[row..row + m], &mut *into);
     add_image(
         sign,
@@ -165,13 +165,10 @@ fn note_first(
     let shape = sizes.shape;
     let count = basis.len() / shape.n;
     let mut r = 0;
-    let mut p = 0;
-    while p < count {
+    for p in 0..count {
         if r < stored {
-            let next = note_generator(p, r, basis, list, table, shape, &mut *coefficients);
-            r = next;
+            r = note_generator(p, r, basis, list, table, shape, &mut *coefficients);
         }
-        p += 1;
     }
 }
 
@@ -186,7 +183,7 @@ fn advance(
     keys: &mut [u64],
     basis: &[i32],
     coefficients: &mut [i64],
-) -> Completion
+) -> Result<State, Refusal>
     requires ready { Ready sizes table.now list.old marks.old keys.old s }
     requires left { s.i < s.stored }
     requires notable { Notable sizes.shape sizes.limit table.now basis.now coefficients.old }
@@ -198,32 +195,27 @@ fn advance(
         let coefficients = coefficients.exit.now in
         CertifiedTo sizes.shape table list marks.new keys.new basis coefficients end result }
 {
-    let c = step(s, &mut *list, table, sizes, &mut *marks, &mut *keys);
-    match c {
-        Completion::Stopped { number, place } => Completion::Stopped { number, place },
-        Completion::Running(t) => {
-            if (basis.len() == 0) | (t.stored <= s.stored) {
-                return Completion::Running(t);
-            }
-            let shape = sizes.shape;
-            if note_row(
-                s,
-                &*list,
-                table,
-                shape,
-                &*marks,
-                &*keys,
-                basis,
-                &mut *coefficients,
-            ) {
-                return Completion::Running(t);
-            }
-            Completion::Stopped {
-                number: 24,
-                place: t.sums,
-            }
-        }
+    let t = step(s, &mut *list, table, sizes, &mut *marks, &mut *keys)?;
+    if (basis.len() == 0) | (t.stored <= s.stored) {
+        return Ok(t);
     }
+    let shape = sizes.shape;
+    if note_row(
+        s,
+        &*list,
+        table,
+        shape,
+        &*marks,
+        &*keys,
+        basis,
+        &mut *coefficients,
+    ) {
+        return Ok(t);
+    }
+    Err(Refusal {
+        number: 24,
+        place: t.sums,
+    })
 }
 
 // All sums that are left are tried, one after the other (Specification 3.2 to 3.4).
@@ -236,7 +228,7 @@ fn run(
     keys: &mut [u64],
     basis: &[i32],
     coefficients: &mut [i64],
-) -> Completion
+) -> Result<State, Refusal>
     requires ready { Ready sizes table.now list.old marks.old keys.old first }
     requires untried { first.sums ≡ 0 }
     requires notable { Notable sizes.shape sizes.limit table.now basis.now coefficients.old }
@@ -249,8 +241,9 @@ fn run(
         CertifiedTo sizes.shape table list marks.new keys.new basis coefficients end result }
 {
     let mut s = first;
+    // Not a `for`: how many sums there are depends on the rows that are stored.
     while s.i < s.stored {
-        let c = advance(
+        s = advance(
             s,
             &mut *list,
             table,
@@ -259,17 +252,9 @@ fn run(
             &mut *keys,
             basis,
             &mut *coefficients,
-        );
-        match c {
-            Completion::Running(t) => {
-                s = t;
-            }
-            Completion::Stopped { number, place } => {
-                return Completion::Stopped { number, place };
-            }
-        }
+        )?;
     }
-    Completion::Running(s)
+    Ok(s)
 }
 
 // Steps 1 to 4, with the coefficients of the stored rows (Specification 3.1 to 3.4 and 3.7).
@@ -282,7 +267,7 @@ pub fn complete(
     keys: &mut [u64],
     basis: &[i32],
     coefficients: &mut [i64],
-) -> Completion
+) -> Result<State, Refusal>
     requires areas { Areas sizes table.now list.old marks.old }
     requires admissible { Admissible sizes.shape table.now generators.now }
     requires own { 0 < length basis.now → basis.now ≡ generators.now }
@@ -294,28 +279,23 @@ pub fn complete(
         let coefficients = coefficients.exit.now in
         CertifiedTo sizes.shape table list marks.new keys.new basis coefficients end result }
 {
-    let c = begin(
+    let s = begin(
         generators,
         &mut *list,
         table,
         sizes,
         &mut *marks,
         &mut *keys,
-    );
-    match c {
-        Completion::Stopped { number, place } => Completion::Stopped { number, place },
-        Completion::Running(s) => {
-            note_first(basis, &*list, table, sizes, s.stored, &mut *coefficients);
-            run(
-                s,
-                &mut *list,
-                table,
-                sizes,
-                &mut *marks,
-                &mut *keys,
-                basis,
-                &mut *coefficients,
-            )
-        }
-    }
+    )?;
+    note_first(basis, &*list, table, sizes, s.stored, &mut *coefficients);
+    run(
+        s,
+        &mut *list,
+        table,
+        sizes,
+        &mut *marks,
+        &mut *keys,
+        basis,
+        &mut *coefficients,
+    )
 }

@@ -1,17 +1,18 @@
 -- Step 5 with coefficients (Specification 3.5): the rows that stay are among the stored rows, and take their coefficients.
 -- Assumes nothing.
-use mathlib.Core.Path.{◌≡◌, sym, ◌∙◌, ap, ap₂, subst}
-use mathlib.Core.Bool.{true, not}
-use mathlib.Core.List.{List, [], map, Memᴰ, append-nil}
+use mathlib.Core.Path.{◌≡◌, sym, ◌∙◌, ap, subst}
+use mathlib.Core.Bool.{not}
+use mathlib.Core.List.{List, [], ◌++◌, map, Memᴰ, append-nil}
 use Prim.Native.Nat.{ℕ, ◌*◌, ◌/◌, ◌≤◌, ◌<◌}
 use native.Mathlib.Nat.{le-div_iff_mul-le, mul-div_cancel, mul-le-mul, mul-le-mul_right}
 use native.Mathlib.Omega.{arith}
 use lib.IntN.{ℤ, pos}
 use lib.ListN.{length, get_or, take}
 use lib.Seq.{length-take-le}
+use Rattle.std.proofs.lemmas.List.{take_at}
 use Rattle.definitions.specs.Limits.{cells, generator_limit, list_limit, stored_coefficient_limit}
 use Rattle.definitions.specs.Lists.{concat, range, select}
-use Rattle.definitions.specs.Vector.{Vector, is_member, padded, weight}
+use Rattle.definitions.specs.Vector.{Vector, padded, weight}
 use Rattle.definitions.specs.Group.{Exchange}
 use Rattle.definitions.specs.Orbit.{precedes}
 use Rattle.definitions.specs.Completion.{final_rows, has_other_below}
@@ -22,10 +23,9 @@ use Rattle.theory.proofs.Members.{Each, each-cons, each_append, each_member, eac
 use Rattle.theory.proofs.Equal.{member_is}
 use Rattle.theory.proofs.Bounds.{Within}
 use Rattle.theory.proofs.Sorting.{of-sorted}
-use Rattle.theory.proofs.Rows.{chunks-front, rows-count, short-rows}
+use Rattle.theory.proofs.Rows.{chunks-front, short-rows}
 use Rattle.theory.proofs.Accepted.{padded-length}
 use Rattle.theory.proofs.Held.{Narrow, held-room, held_rows}
-use Rattle.theory.proofs.Listing.{final-few}
 use Rattle.certified_theory.proofs.Weights.{weight-within}
 use Rattle.reduction.specs.declared.Extent.{Extent}
 use Rattle.reduction.specs.Areas.{rows_at, sequences_in}
@@ -44,6 +44,10 @@ final-among table rows v k =
     let inside = (of-select (λ r. not (has_other_below table rows r)) (range 0 (length rows)) t.0 t.1).0 in
     subst (λ (u : Vector). Memᴰ u rows) (sym t.2) (place-member rows [] t.0 (omega (arith, (range-inv 0 (length rows) t.0 inside).1)))
 
+-- the front of an area, once it was copied there
+pub front-copied : {A : Type 0} (k : ℕ) {front : List A} (area rest : List A) → k ≤ length area → front ≡ take k area → take k (front ++ rest) ≡ take k area
+front-copied k {front} area rest h e = take_at front rest k (ap length e ∙ length-take-le k area h) ∙ e
+
 -- whole rows of an area: so many rows of n numbers
 pub front-rows : {A : Type 0} (n k : ℕ) (area : List A) → k * n ≤ length area → chunks n k (take (k * n) area) ≡ chunks n k area
 front-rows n k area h = ap (chunks n k) (sym (append-nil (take (k * n) area))) ∙ chunks-front n k area [] h
@@ -54,9 +58,7 @@ times-over n k h = let some : 0 < n = omega arith in mul-div_cancel k some
 -- .. as vectors
 pub front-vectors : (n k : ℕ) (area : List ℤ) → 1 ≤ n → k * n ≤ length area → vectors_of n (take (k * n) area) ≡ rows_at n k area
 unfolding vectors_of rows_of
-front-vectors n k area p h =
-    let count : length (take (k * n) area) / n ≡ k = ap (λ (l : ℕ). l / n) (length-take-le (k * n) area h) ∙ times-over n k p in
-    ap (λ (l : ℕ). map padded (chunks n l (take (k * n) area))) count ∙ ap (map padded) (front-rows n k area h)
+front-vectors n k area p h = rw (length-take-le (k * n) area h, times-over n k p, front-rows n k area h)
 
 -- the numbers of rows that are within a limit are within it
 within_all : (limit : ℕ) {rows : List (List ℤ)} → Each (Within limit) rows → Within limit (concat rows)
@@ -89,31 +91,18 @@ module _ (extent : Extent) (m : ℕ) {group : List ℕ} {list : List ℤ} {marks
   abbrev kept : List Vector
   kept = final_rows table rows
 
-  pub stored-room : k * n ≤ length list
-  stored-room = N.marked.area.holds
-
-  pub stored-copied : k * n ≤ list_limit * cells
-  stored-copied = omega (arith, mul-le-mul N.few N.marked.is_table.narrow)
-
   pub noted_small : k * m ≤ list_limit * generator_limit
   noted_small = omega (arith, mul-le-mul N.few N.narrow)
 
   narrow : Each (Narrow n) kept
-  narrow = each_of kept (λ v h. each_member (rows-narrow n k list N.marked.is_table.narrow stored-room) (final-among table rows v h))
+  narrow = each_of kept (λ v h. each_member (rows-narrow n k list N.marked.is_table.narrow N.marked.area.holds) (final-among table rows v h))
 
   module _ {list' : List ℤ} {count : ℕ} (F : Finished extent group list list' count) where
-    few : count ≤ k
-    few = omega (arith, F.counted, final-few table rows, rows-count n k list)
-
     pub kept-held : rows_at n count list' ≡ kept
-    kept-held =
-        ap (λ (c : ℕ). rows_at n c list') F.counted
-        ∙ held_rows n N.marked.is_table.narrow kept narrow (length list) F.lies
+    kept-held = rw F.counted (held_rows n N.marked.is_table.narrow kept narrow (length list) F.lies)
 
     pub kept-room : count * n ≤ length list'
-    kept-room =
-        subst (λ (c : ℕ). c * n ≤ length list') (sym F.counted)
-        (held-room n N.marked.is_table.narrow kept narrow (length list) F.lies)
+    kept-room = rw F.counted (held-room n N.marked.is_table.narrow kept narrow (length list) F.lies)
 
     pub kept-vectors : vectors_of n (take (count * n) list') ≡ kept
     kept-vectors = front-vectors n count list' N.marked.is_table.positive kept-room ∙ kept-held
@@ -121,16 +110,14 @@ module _ (extent : Extent) (m : ℕ) {group : List ℕ} {list : List ℤ} {marks
     -- the stored rows, copied
     module _ {copied : List ℤ} (same : copied ≡ take (k * n) list) where
       pub stored-vectors : vectors_of n copied ≡ rows
-      stored-vectors = ap (vectors_of n) same ∙ front-vectors n k list N.marked.is_table.positive stored-room
+      stored-vectors = rw same (front-vectors n k list N.marked.is_table.positive N.marked.area.holds)
 
       stored-count : length copied / n ≡ k
-      stored-count =
-          ap (λ (l : ℕ). l / n) (ap length same ∙ length-take-le (k * n) list stored-room)
-          ∙ times-over n k N.marked.is_table.positive
+      stored-count = rw (same, length-take-le (k * n) list N.marked.area.holds) (times-over n k N.marked.is_table.positive)
 
       light : weight (take (k * m) noted) ≤ widest
       light =
-          let all = subst (Within stored_coefficient_limit) (concat-chunks m k noted) (within_all stored_coefficient_limit N.limited) in
+          let all = rw (concat-chunks m k noted) at (within_all stored_coefficient_limit N.limited) in
           let long = length-take-le (k * m) noted N.holds in
           omega (arith, weight-within stored_coefficient_limit all, long, mul-le-mul_right {m = k * m} {n = list_limit * generator_limit} stored_coefficient_limit noted_small, ap (λ (l : ℕ). l * stored_coefficient_limit) long)
 
@@ -139,10 +126,7 @@ module _ (extent : Extent) (m : ℕ) {group : List ℕ} {list : List ℤ} {marks
       arrangeable long = record {
         positive = N.marked.is_table.positive;
         narrow = N.marked.is_table.narrow;
-        known =
-            subst (Each (λ v. is_member v (vectors_of n copied) ≡ true)) (sym kept-vectors)
-            (subst (λ (stored : List Vector). Each (λ v. is_member v stored ≡ true) kept) (sym stored-vectors)
-            (each_of kept (λ v h. member_is (final-among table rows v h))));
+        known = rw (kept-vectors, stored-vectors) (each_of kept (λ v h. member_is (final-among table rows v h)));
         holds = omega (arith, ap (λ (l : ℕ). l * m) stored-count, length-take-le (k * m) noted N.holds);
         room =
             let whole : length (take (count * n) list') / n ≡ count =
@@ -159,10 +143,5 @@ module _ (extent : Extent) (m : ℕ) {group : List ℕ} {list : List ℤ} {marks
       unfolding final_coefficients
       arranged_is size e = record {
         finished = F;
-        arranged =
-            e
-            ∙ ap (λ (due : List (List ℤ)). filled (pos 0) size (concat due))
-            (ap (λ (c : ℕ). arranged (vectors_of n copied) (chunks m c (take (k * m) noted)) (vectors_of n (take (count * n) list'))) stored-count
-            ∙ ap₂ (λ (stored kept : List Vector). arranged stored (chunks m k (take (k * m) noted)) kept) stored-vectors kept-vectors
-            ∙ ap (λ (cs : List (List ℤ)). arranged rows cs kept) (front-rows m k noted N.holds));
+        arranged = rw (stored-count, stored-vectors, kept-vectors, front-rows m k noted N.holds) at e;
       }

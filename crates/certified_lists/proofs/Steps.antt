@@ -1,21 +1,21 @@
 -- Steps 1 to 5 on a list area, with the coefficients of the rows (Specification 3). Assumes nothing.
+use Rattle.definitions.specs.Refusals.{refused}
 use mathlib.Core.Path.{◌≡◌, sym, ◌∙◌, ap, ap₂}
 use mathlib.Core.Logic.{inl, inr}
 use mathlib.Core.List.{List}
 use Prim.Native.Nat.{ℕ, ◌*◌, ◌/◌, ◌≤◌}
 use native.Mathlib.Omega.{arith}
 use native.Mathlib.Nat.{mul-le-mul}
-use lib.IntN.{ℤ, pos}
+use lib.IntN.{ℤ}
 use lib.ListN.{length}
-use Rattle.definitions.specs.declared.Answer.TheVariants.{Moves, Refused}
+use Rattle.definitions.specs.declared.Answer.TheVariants.{Moves}
 use Rattle.definitions.specs.Limits.{generator_limit, group_limit, list_limit}
-use Rattle.definitions.specs.Lists.{concat}
 use Rattle.definitions.specs.Vector.{Vector}
 use Rattle.definitions.specs.Group.{Exchange}
 use Rattle.definitions.specs.Completion.{completed, final_rows, running, stopped}
 use Rattle.definitions.specs.Completion as Defined
-use Rattle.definitions.specs.Certified.{CertifiedCompletion, certified_completed, final_coefficients}
-use Rattle.definitions.specs.Lent.{filled, list_rows, numbers_of, vectors_of}
+use Rattle.definitions.specs.Certified.{CertifiedCompletion, final_coefficients}
+use Rattle.definitions.specs.Lent.{list_rows, vectors_of}
 use Rattle.definitions.specs.Refusals.{Outcome, accepted}
 use Rattle.definitions.specs.Calls.{CertifiedListing, certified_listing_of, listed_coefficients, listing_of, with_coefficients}
 use Rattle.theory.proofs.Lists.{chunks-length}
@@ -25,12 +25,11 @@ use Rattle.reduction.specs.declared.Extent.{Extent}
 use Rattle.reduction.specs.declared.Shape.{Shape}
 use Rattle.reduction.specs.Areas.{rows_at, sequences_in}
 use Rattle.completion.specs.declared.State.{State}
-use Rattle.completion.specs.declared.Completion.TheVariants.{Running, Stopped}
 use Rattle.completion.specs.Machine.{After, sizes_of, state_in}
 use Rattle.completion.specs.Machine as Machine
-use Rattle.certified.specs.Noting.{CertifiedTo, Notable, completed_in, noted_in, width_of}
+use Rattle.certified.specs.Noting.{CertifiedTo, completed_in, noted_in, width_of}
 use Rattle.moves.proofs.Steps.{few, stored-few, stored-marked}
-use Rattle.certified_lists.specs.Found.{Arranged, CertifiedFinds, ClosedGroup, RowsAndCoefficients, answer_of, certified_with}
+use Rattle.certified_lists.specs.Found.{Arranged, CertifiedFinds, ClosedGroup, RowsAndCoefficients, certified_with}
 use Rattle.certified_lists.proofs.Ends.{finds-refused}
 
 -- an outcome of a completion and the coefficients of its rows
@@ -54,33 +53,25 @@ module _ {shape : Shape} {generators : List ℤ} {group : List ℕ} (C : ClosedG
   abbrev due : Outcome CertifiedListing
   due = certified_with n list_size table generators
 
-  -- coefficients can be noted for all rows
-  pub all-notable : {noted : List ℤ} → list_limit * generator_limit ≤ length noted → Notable shape limit group generators noted
-  all-notable room = record {
-    closed = C.closed;
-    room = omega (arith, mul-le-mul (few C.grouped list_size limit rows) C.closed.is_basis.few, room);
-  }
-
   due-is : due ≡ listed_as table end.completion end.coefficients
   unfolding certified_listing_of
-  due-is = let basis = vectors_of n generators in ap (λ (k : ℕ). certified_listing_of table (certified_completed basis table k basis)) (sym rows)
+  due-is = rw (← rows)
 
   module _ {list : List ℤ} {marks keys : List ℕ} {noted : List ℤ} where
     -- the completion was turned down
     pub certified-stopped : (number place : ℕ) {group_size size : ℕ} {coefficients : List ℤ}
-        → CertifiedTo shape group list marks keys generators noted end (Stopped number place)
-        → CertifiedFinds n list_size group_size size due list group coefficients (Refused number place)
+        → CertifiedTo shape group list marks keys generators noted end (refused number place)
+        → CertifiedFinds n list_size group_size size due list group coefficients (refused number place)
     unfolding with_coefficients listed_coefficients listing_of
-    certified-stopped number place A =
-        finds-refused (due-is ∙ ap (λ (c : Defined.Completion). listed_as table c end.coefficients) (sym A.after.answer))
+    certified-stopped number place A = finds-refused (rw (due-is, ← A.after.answer))
 
-    module _ (s : State) (A : CertifiedTo shape group list marks keys generators noted end (Running s))
+    module _ (s : State) (A : CertifiedTo shape group list marks keys generators noted end (accepted s))
         (long : length list ≡ list_size) where
       abbrev extent : Extent
       extent = record { shape = shape; k = s.stored }
 
       -- it is the plain completion: 24 was not met
-      plain : After shape group list marks keys (Machine.completed_in (sizes_of shape limit) group generators) (Running s)
+      plain : After shape group list marks keys (Machine.completed_in (sizes_of shape limit) group generators) (accepted s)
       plain = record { answer = go (completed-forgets basis table limit basis); held = A.after.held }
         where
           basis : List Vector
@@ -112,18 +103,13 @@ module _ {shape : Shape} {generators : List ℤ} {group : List ℕ} (C : ClosedG
       -- and then step 5
       pub certified-ended : {final coefficients : List ℤ} (count size : ℕ)
           → Arranged extent m group list noted final coefficients count size
-          → CertifiedFinds n list_size (length group) size due final group coefficients (Moves count shape.g s.stored s.sums)
+          → CertifiedFinds n list_size (length group) size due final group coefficients (accepted (Moves count shape.g s.stored s.sums))
       unfolding with_coefficients listed_coefficients listing_of
       certified-ended {final} {coefficients} count size F = record {
-        answer =
-            ap₂ (λ (a b : ℕ). Moves a b s.stored s.sums) F.finished.counted (sym (chunks-length n shape.g group))
-            ∙ ap (λ (k : ℕ). Moves (length kept) (length table) k s.sums) (sym (rows-count n s.stored list))
-            ∙ ap answer_of (sym due-ended);
-        list_holds = λ found h.
-            F.finished.lies
-            ∙ ap₂ (λ (k : ℕ) (f : CertifiedListing). filled (pos 0) k (numbers_of n f.listing.rows)) long (is-ended h);
-        group_holds = λ found h. C.grouped.held ∙ ap (λ (f : CertifiedListing). filled 0 (length group) (concat f.listing.table)) (is-ended h);
-        coefficients_hold = λ found h. F.arranged ∙ ap (λ (f : CertifiedListing). filled (pos 0) size (concat f.coefficients)) (is-ended h);
+        answer = rw (due-ended, F.finished.counted, chunks-length n shape.g group, rows-count n s.stored list);
+        list_holds = λ found h. rw (← is-ended h, ← long) F.finished.lies;
+        group_holds = λ found h. rw (← is-ended h) C.grouped.held;
+        coefficients_hold = λ found h. rw (← is-ended h) F.arranged;
       }
         where
           kept : List Vector

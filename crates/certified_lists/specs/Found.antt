@@ -1,7 +1,8 @@
 -- What the parts of the List with coefficients find, by the definitions (Specification 3.7 and 7). Assumes nothing.
+use Rattle.std.specs.declared.result.Result.TheVariants.{Err}
 use Rattle.std.specs.Prelude.{◌≡◌, List, ℕ, ◌*◌, ◌/◌, ◌≤◌, ℤ, pos, length}
 use Rattle.definitions.specs.declared.Answer.{Answer}
-use Rattle.definitions.specs.declared.Answer.TheVariants.{Moves, Refused}
+use Rattle.definitions.specs.declared.Answer.TheVariants.{Moves}
 use Rattle.definitions.specs.Limits.{generator_limit, list_limit, stored_coefficient_limit}
 use Rattle.definitions.specs.Lists.{concat}
 use Rattle.definitions.specs.Group.{Exchange}
@@ -32,15 +33,15 @@ certified_with n list_size table generators =
     certified_listing_of table (certified_completed basis table (list_rows n list_size) basis)
 
 -- an outcome as an answer
-abbrev pub answer_of : Outcome CertifiedListing → Answer
-answer_of (refused number place) = Refused number place
+abbrev pub answer_of : Outcome CertifiedListing → Outcome Answer
+answer_of (Err r) = refused r.number r.place
 answer_of (accepted found) =
     let listing = found.listing in
-    Moves (length listing.rows) (length listing.table) listing.stored listing.sums
+    accepted (Moves (length listing.rows) (length listing.table) listing.stored listing.sums)
 
 -- the outcome `o` was found, and the areas hold it where it was accepted
 pub record CertifiedFinds (n list_size group_size coefficient_size : ℕ) (o : Outcome CertifiedListing) (list : List ℤ)
-    (group : List ℕ) (coefficients : List ℤ) (r : Answer) : Type 0 where
+    (group : List ℕ) (coefficients : List ℤ) (r : Outcome Answer) : Type 0 where
   pub answer : r ≡ answer_of o
   pub list_holds : (found : CertifiedListing) → o ≡ accepted found
       → list ≡ filled (pos 0) list_size (numbers_of n found.listing.rows)
@@ -51,7 +52,7 @@ pub record CertifiedFinds (n list_size group_size coefficient_size : ℕ) (o : O
 
 -- .. in lent areas: what is due for their sizes
 abbrev pub CertifiedFindsIn : (n : ℕ) (due : (list_size group_size coefficient_size : ℕ) → Outcome CertifiedListing)
-    (list : LentMut ℤ) (group : LentMut ℕ) (coefficients : LentMut ℤ) (r : Answer) → Type 0
+    (list : LentMut ℤ) (group : LentMut ℕ) (coefficients : LentMut ℤ) (r : Outcome Answer) → Type 0
 CertifiedFindsIn n due list group coefficients r =
     let list_size = length list.entry.now in
     let group_size = length group.entry.now in
@@ -61,7 +62,7 @@ CertifiedFindsIn n due list group coefficients r =
 
 -- what is listed with the table in the group area was found
 abbrev pub CertifiedCompletes : Shape → (generators : Lent ℤ) (list : LentMut ℤ) (group : Lent ℕ)
-    (coefficients : LentMut ℤ) (r : Answer) → Type 0
+    (coefficients : LentMut ℤ) (r : Outcome Answer) → Type 0
 CertifiedCompletes shape generators list group coefficients r =
     let table = sequences_in shape group.entry.now in
     let list_size = length list.entry.now in

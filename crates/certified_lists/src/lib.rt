@@ -8,32 +8,20 @@ ghost use Rattle.certified_lists.specs.Promise.{KeepsCertified};
 ghost use Rattle.certified_lists.specs.Found.{Arranged, CertifiedCompletes, CertifiedFindsIn, ClosedGroup};
 ghost use Rattle.certified_lists.specs.Found.{RowsAndCoefficients};
 
-use admission::{Admission, admit, rows_up_to};
+use admission::{admit, rows_up_to};
 use certified::complete;
-use coefficients::{arrange, clear_coefficients};
-use completion::{Completion, Sizes};
-use definitions::Answer;
+use coefficients::arrange;
+use completion::Sizes;
 use definitions::limits::{CELLS, GENERATOR_LIMIT, LIST_LIMIT};
+use definitions::{Answer, Refusal};
 use moves::{KEYS, MARKS};
 use reduction::{Extent, Shape};
-use vectors::{clear, clear_bytes};
+use vectors::clear;
 
 // The numbers of all list rows, and their coefficients.
 const ROWS: usize = LIST_LIMIT * CELLS;
 
 const NOTED: usize = LIST_LIMIT * GENERATOR_LIMIT;
-
-// The first numbers of an area become some others.
-fn copy_numbers(from: &[i32], into: &mut [i32])
-    requires room { length from.now ≤ length into.old }
-    ensures copied { take (length from.now) into.new ≡ from.now }
-{
-    let mut i = 0;
-    while i < from.len() {
-        into[i] = from[i];
-        i += 1;
-    }
-}
 
 // Step 5: the rows that stay, sorted, and their coefficients beside them; m numbers to a row (Specification 3.5).
 fn finish_certified(
@@ -56,7 +44,7 @@ fn finish_certified(
     let n = extent.shape.n;
     let numbers = extent.k * n;
     let mut stored = [0i32; ROWS];
-    copy_numbers(&list[..numbers], &mut stored);
+    stored[..numbers].copy_from_slice(&list[..numbers]);
     let mut flags = [0u8; LIST_LIMIT];
     let rows = sorting::finish(&mut *list, group, extent, marks, keys, &mut flags);
     let kept = rows * n;
@@ -79,44 +67,39 @@ fn complete_certified(
     group: &[u8],
     shape: Shape,
     coefficients: &mut [i64],
-) -> Answer
+) -> Result<Answer, Refusal>
     requires closed { ClosedGroup shape generators.now group.now }
     requires room { length coefficients.old ≡ length list.old / shape.n * (length generators.now / shape.n) }
     ensures found { CertifiedCompletes shape generators list group coefficients result }
 {
-    clear(&mut *list, 0);
+    clear(&mut *list, 0, 0);
     let mut marks = [0u8; MARKS];
     let mut keys = [0u64; KEYS];
     let mut noted = [0i64; NOTED];
     let limit = rows_up_to(LIST_LIMIT, shape.n, list.len());
     let sizes = Sizes { shape, limit };
-    let c = complete(
+    let s = complete(
         generators, &mut *list, group, sizes, &mut marks, &mut keys, generators, &mut noted,
+    )?;
+    let stored = s.stored;
+    let extent = Extent { shape, k: stored };
+    let m = generators.len() / shape.n;
+    let rows = finish_certified(
+        &mut *list,
+        group,
+        extent,
+        &marks,
+        &keys,
+        &noted,
+        m,
+        &mut *coefficients,
     );
-    match c {
-        Completion::Stopped { number, place } => Answer::Refused { number, place },
-        Completion::Running(s) => {
-            let stored = s.stored;
-            let extent = Extent { shape, k: stored };
-            let m = generators.len() / shape.n;
-            let rows = finish_certified(
-                &mut *list,
-                group,
-                extent,
-                &marks,
-                &keys,
-                &noted,
-                m,
-                &mut *coefficients,
-            );
-            Answer::Moves {
-                rows: rows as u64,
-                members: shape.g as u64,
-                stored: stored as u64,
-                sums: s.sums,
-            }
-        }
-    }
+    Ok(Answer::Moves {
+        rows: rows as u64,
+        members: shape.g as u64,
+        stored: stored as u64,
+        sums: s.sums,
+    })
 }
 
 // 5 to 13 and 24, and the areas of an accepted List with coefficients (Specification 7.1).
@@ -128,19 +111,14 @@ fn make_certified(
     list: &mut [i32],
     group: &mut [u8],
     coefficients: &mut [i64],
-) -> Answer
+) -> Result<Answer, Refusal>
     ensures found { let due = certified_listing (sent_order n generators exchanges images) in
         CertifiedFindsIn n due list group coefficients result }
 {
     let fits = refusals::certified_fits(n, generators, images, list.len(), coefficients.len());
-    let admission = admit(n, generators, exchanges, images, fits, &mut *group);
-    match admission {
-        Admission::Refused { number, place } => Answer::Refused { number, place },
-        Admission::Members(g) => {
-            let shape = Shape { n, g };
-            complete_certified(generators, &mut *list, &*group, shape, &mut *coefficients)
-        }
-    }
+    let g = admit(n, generators, exchanges, images, fits, &mut *group)?;
+    let shape = Shape { n, g };
+    complete_certified(generators, &mut *list, &*group, shape, &mut *coefficients)
 }
 
 // List with coefficients: what List leaves in the list area and the group area, and in the coefficients area m numbers
@@ -154,7 +132,7 @@ pub fn list_with_coefficients(
     list: &mut [i32],
     group: &mut [u8],
     coefficients: &mut [i64],
-) -> Answer
+) -> Result<Answer, Refusal>
     ensures kept { KeepsCertified n generators exchanges images list group coefficients result }
 {
     let found = make_certified(
@@ -166,11 +144,10 @@ pub fn list_with_coefficients(
         &mut *group,
         &mut *coefficients,
     );
-    if let Answer::Refused { number, place } = found {
-        clear(&mut *list, 0);
-        clear_bytes(&mut *group, 0);
-        clear_coefficients(&mut *coefficients, 0);
-        return Answer::Refused { number, place };
+    if found.is_err() {
+        clear(&mut *list, 0, 0);
+        clear(&mut *group, 0, 0);
+        clear(&mut *coefficients, 0, 0);
     }
     found
 }

@@ -1,11 +1,11 @@
 -- What the tests of sizes say of a List with coefficients that meets none (Specification 7.3). Assumes nothing.
+use Rattle.definitions.specs.Refusals.{no_fault}
 use mathlib.Core.Path.{◌≡◌, refl, ◌∙◌, ap₂}
 use mathlib.Core.Bool.{Bool, true, false, not, ◌&&◌}
 use Prim.Native.Nat.{ℕ, ◌*◌, ◌/◌}
 use borrow.Author.Tests.{eq-eqb, eqb-true, not-true}
 use lib.Dec.{eqb}
 use lib.ListN.{length}
-use Rattle.definitions.specs.declared.Fault.TheVariants.{None}
 use Rattle.definitions.specs.Lent.{Order, is_bare, whole_rows}
 use Rattle.definitions.specs.Refusals.{accepted, admission_fault, certified_fits, size_fault}
 use Rattle.definitions.specs.Calls.{CertifiedListing, certified_listing}
@@ -50,7 +50,7 @@ fits-alike order list_size coefficient_size sized full =
 
 -- 6
 pub sizes-of-certified : (order : Order) (list_size group_size coefficient_size : ℕ)
-    → size_fault order group_size (certified_fits order list_size coefficient_size) ≡ None
+    → size_fault order group_size (certified_fits order list_size coefficient_size) ≡ no_fault
     → OrderSized order × CertifiedSized order list_size coefficient_size
 sizes-of-certified order list_size group_size coefficient_size e =
     let Z = sizes-of-order order group_size (certified_fits order list_size coefficient_size) e in

@@ -1,5 +1,7 @@
 -- The plain completion is what is left of the one with coefficients when they are forgotten, as long as 24 is not
 -- met; and 24 is never met where there are no coefficients to note. Assumes nothing.
+use Rattle.std.specs.declared.result.Result.TheVariants.{Err}
+use Rattle.definitions.specs.Refusals.{Fault, no_fault}
 use mathlib.Core.Path.{◌≡◌, refl, sym, ◌∙◌, ap, subst}
 use mathlib.Core.Logic.{◌⊎◌, inl, inr}
 use mathlib.Core.Bool.{Bool, true, false, cond}
@@ -8,9 +10,6 @@ use Prim.Native.Nat.{ℕ, zero, suc, ◌+◌, ◌*◌, ◌/◌}
 use lib.Dec.{leb}
 use lib.IntN.{ℤ}
 use lib.ListN.{length}
-use Rattle.definitions.specs.declared.Answer.TheVariants.{Refused}
-use Rattle.definitions.specs.declared.Fault.{Fault}
-use Rattle.definitions.specs.declared.Fault.TheVariants.{None, At}
 use Rattle.definitions.specs.Limits.{stored_coefficient_limit}
 use Rattle.definitions.specs.Lists.{every, until}
 use Rattle.definitions.specs.Vector.{Vector, equal, negative, within, zeros}
@@ -184,7 +183,7 @@ module _ (table : List Exchange) (limit : ℕ) where
 -- ---- the calls
 abbrev pub forgotten : Outcome CertifiedListing → Outcome Listing
 forgotten (accepted found) = accepted found.listing
-forgotten (refused number place) = refused number place
+forgotten (Err r) = refused r.number r.place
 
 -- one outcome is the other without its coefficients, or is 24
 abbrev pub Agrees : Outcome Listing → Outcome CertifiedListing → Type 0
@@ -193,7 +192,7 @@ Agrees plain found = (forgotten found ≡ plain) ⊎ ((place : ℕ) × (found �
 with-forgotten : (cs : List (List ℤ)) (outcome : Outcome Listing) → forgotten (with_coefficients cs outcome) ≡ outcome
 unfolding with_coefficients
 with-forgotten cs (accepted found) = refl
-with-forgotten cs (refused number place) = refl
+with-forgotten cs (Err r) = refl
 
 listing-agrees : (table : List Exchange) (c : Completion) (x : CertifiedCompletion) → Follows c x
     → Agrees (listing_of table c) (certified_listing_of table x)
@@ -205,8 +204,8 @@ listing-agrees table c x (inr (place, e)) =
 unless-agrees : (fault : Fault) (plain : Outcome Listing) (found : Outcome CertifiedListing) → Agrees plain found
     → Agrees (unless_fault fault plain) (unless_fault fault found)
 unfolding unless_fault
-unless-agrees None plain found h = h
-unless-agrees (At number place) plain found h = inl refl
+unless-agrees no_fault plain found h = h
+unless-agrees (Err r) plain found h = inl refl
 
 -- WHERE THE COEFFICIENTS AREA HAS ITS SIZE and the order is not bare, both calls find the same and are refused alike,
 -- unless 24 is met
@@ -271,7 +270,7 @@ plain_end end = record { answer = end.answer; list = end.list; group = end.group
 pub certified-end : (order : Order) (list_size group_size coefficient_size : ℕ)
     → coefficient_size ≡ list_size / order.n * (length order.generators / order.n) → is_bare order ≡ false
     → (plain_end (certified_call order list_size group_size coefficient_size) ≡ list_call order list_size group_size)
-    ⊎ ((place : ℕ) × ((certified_call order list_size group_size coefficient_size).answer ≡ Refused 24 place))
+    ⊎ ((place : ℕ) × ((certified_call order list_size group_size coefficient_size).answer ≡ refused 24 place))
 unfolding certified_call certified_end list_call list_end
 certified-end order list_size group_size coefficient_size sized full =
     go (certified_listing order list_size group_size coefficient_size) (listing order list_size group_size)
@@ -283,10 +282,10 @@ certified-end order list_size group_size coefficient_size sized full =
     end_is : (found : Outcome CertifiedListing)
         → plain_end (ended found) ≡ list_end order.n list_size group_size (forgotten found)
     end_is (accepted found) = refl
-    end_is (refused number place) = refl
+    end_is (Err r) = refl
 
     go : (found : Outcome CertifiedListing) (plain : Outcome Listing) → Agrees plain found
         → (plain_end (ended found) ≡ list_end order.n list_size group_size plain)
-        ⊎ ((place : ℕ) × ((ended found).answer ≡ Refused 24 place))
+        ⊎ ((place : ℕ) × ((ended found).answer ≡ refused 24 place))
     go found plain (inl q) = inl (end_is found ∙ ap (list_end order.n list_size group_size) q)
     go found plain (inr (place, q)) = inr (place, ap (λ (o : Outcome CertifiedListing). (ended o).answer) q)

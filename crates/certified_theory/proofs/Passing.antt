@@ -1,4 +1,5 @@
 -- Every list written with its coefficients is passed by Check with the same order. Assumes nothing.
+use Rattle.definitions.specs.Refusals.{no_fault}
 use mathlib.Core.Path.{◌≡◌, refl, sym, ◌∙◌, ap, ap₂, subst}
 use mathlib.Core.Bool.{Bool, true, false, not, ◌&&◌, ◌||◌}
 use mathlib.Core.List.{List, [], ◌++◌, map, append-nil, Memᴰ}
@@ -11,7 +12,6 @@ use lib.IntN.{ℤ, pos, nat_abs}
 use lib.ListN.{length, get_or, replicate, take, length-map}
 use lib.Seq.{length-take-le}
 use Rattle.definitions.specs.declared.Answer.TheVariants.{Passed}
-use Rattle.definitions.specs.declared.Fault.TheVariants.{None}
 use Rattle.definitions.specs.Limits.{cells, coefficient_limit, entry_limit, list_limit}
 use Rattle.definitions.specs.Lists.{any, concat}
 use Rattle.definitions.specs.Vector.{Vector, equal, is_zero, padded, within, zero_vector}
@@ -52,8 +52,8 @@ use Rattle.certified_theory.proofs.Forgetting.{accepted-sized, certified-listing
 use Rattle.certified_theory.proofs.Rooms.{other-order, other-table}
 
 -- ---- the list's rows have their coefficients
-module _ (order : Order) (group_size limit : ℕ) (b : is_bare order ≡ false) (e : cells_fault order.n ≡ None)
-    (f : order_fault order group_size ≡ None) where
+module _ (order : Order) (group_size limit : ℕ) (b : is_bare order ≡ false) (e : cells_fault order.n ≡ no_fault)
+    (f : order_fault order group_size ≡ no_fault) where
   abbrev table : List Exchange
   table = table_of order group_size
 
@@ -107,7 +107,7 @@ certified-notes order list_size group_size coefficient_size found e =
     x : CertifiedCompletion
     x = certified_completed (generators_of order) table limit (generators_of order)
 
-    go : cells_fault order.n ≡ None → order_fault order group_size ≡ None → (c : Completion) → x.completion ≡ c
+    go : cells_fault order.n ≡ no_fault → order_fault order group_size ≡ no_fault → (c : Completion) → x.completion ≡ c
         → with_coefficients (listed_coefficients table x.coefficients c) (listing_of table c) ≡ accepted found
         → Notes (generators_of order) found.listing.rows found.coefficients
     go p q (stopped number place) r y = accepted-refused y
@@ -251,14 +251,14 @@ module _ (order : Order) (list_size group_size coefficient_size : ℕ) (found : 
     room-there : length (table_of order group_size) ≤ other / n
     room-there = omega (arith, room, ap length found-table)
 
-    sizes : size_fault order other (brought_fits order brought given) ≡ None
+    sizes : size_fault order other (brought_fits order brought given) ≡ no_fault
     unfolding size_fault brought_fits
     sizes = none-if 6 (ap not (and_both (and_both fits-order whole) (and_both brought-fits given-fits)))
 
     same-table : other_table ≡ found.listing.table
     same-table = other-table order group_size other A.tests_pass room-there ∙ sym found-table
 
-    rules : rows_fault other_table generators rows given ≡ None
+    rules : rows_fault other_table generators rows given ≡ no_fault
     unfolding rows_fault
     rules =
         none-all _ ((where-none 17 (length rows) (λ r. is_unfit other_table (get_or rows r []))).1 fit)
@@ -285,7 +285,7 @@ module _ (order : Order) (list_size group_size coefficient_size : ℕ) (found : 
         let admitted =
         none-all _ A.cells_pass (none-all _ sizes (none-all _ (other-order order group_size other A.tests_pass room-there) none_end)) in
         none-all _ admitted
-        (none-all _ (subst (λ (vs : List Vector). rows_fault other_table generators vs given ≡ None) (sym back) rules) none_end)
+        (none-all _ (subst (λ (vs : List Vector). rows_fault other_table generators vs given ≡ no_fault) (sym back) rules) none_end)
 
     whole-list : Whole n (exchanges_of order) generators (vectors_of n brought)
     whole-list = subst (Whole n (exchanges_of order) generators) (sym back) F.kept.whole
@@ -293,7 +293,7 @@ module _ (order : Order) (list_size group_size coefficient_size : ℕ) (found : 
     -- EVERY LIST WRITTEN WITH ITS COEFFICIENTS IS PASSED BY CHECK with the same order, wherever there is room for the
     -- group
     pub written-passed : (check_call order brought given other).answer
-        ≡ Passed (length rows) (sum_count (length found.listing.table) (length rows))
+        ≡ accepted (Passed (length rows) (sum_count (length found.listing.table) (length rows)))
     written-passed =
         (check-answer order brought given other).1 (rules-kept, whole-list)
-        ∙ ap₂ (λ (t : List Exchange) (vs : List Vector). Passed (length vs) (sum_count (length t) (length vs))) same-table back
+        ∙ ap₂ (λ (t : List Exchange) (vs : List Vector). (accepted (Passed (length vs) (sum_count (length t) (length vs))))) same-table back

@@ -1,5 +1,7 @@
 -- What a List with coefficients leaves in its areas: zeros where it is refused; and what an accepted call has
 -- written, sent back to Check as it stands there, is passed. Assumes nothing.
+use Rattle.std.specs.declared.result.Result.TheVariants.{Err}
+use Rattle.definitions.specs.Refusals.{no_fault}
 use mathlib.Core.Path.{◌≡◌, refl, sym, ◌∙◌, ap, ap₂, subst}
 use mathlib.Core.Bool.{true}
 use mathlib.Core.List.{List, []}
@@ -9,8 +11,7 @@ use native.Mathlib.Nat.{mul-le-mul_right}
 use lib.IntN.{ℤ, pos}
 use lib.ListN.{length, take, replicate}
 use lib.Seq.{take_at}
-use Rattle.definitions.specs.declared.Answer.TheVariants.{Moves, Passed, Refused}
-use Rattle.definitions.specs.declared.Fault.TheVariants.{None}
+use Rattle.definitions.specs.declared.Answer.TheVariants.{Moves, Passed}
 use Rattle.definitions.specs.Lists.{concat}
 use Rattle.definitions.specs.Group.{Exchange}
 use Rattle.definitions.specs.Completion.{Completion, completed, running, stopped, sum_count}
@@ -36,7 +37,7 @@ pub record CertifiedZeros (list_size group_size coefficient_size : ℕ) (end : C
 
 -- A REFUSED CALL leaves zeros in all three areas
 pub certified-refused : (order : Order) (list_size group_size coefficient_size number place : ℕ)
-    → (certified_call order list_size group_size coefficient_size).answer ≡ Refused number place
+    → (certified_call order list_size group_size coefficient_size).answer ≡ refused number place
     → CertifiedZeros list_size group_size coefficient_size (certified_call order list_size group_size coefficient_size)
 unfolding certified_call certified_end list_end
 certified-refused order list_size group_size coefficient_size number place e =
@@ -45,10 +46,10 @@ certified-refused order list_size group_size coefficient_size number place e =
     ended : Outcome CertifiedListing → CertifiedEnd
     ended o = certified_end order.n list_size group_size coefficient_size o
 
-    go : (o : Outcome CertifiedListing) → (ended o).answer ≡ Refused number place
+    go : (o : Outcome CertifiedListing) → (ended o).answer ≡ refused number place
         → CertifiedZeros list_size group_size coefficient_size (ended o)
     go (accepted found) q = let z : ◌≡◌ {A = ℕ} 0 1 = cc in absurd (omega arith)
-    go (refused a b) q = record {
+    go (Err r) q = record {
       list = filled-nothing (pos 0) list_size;
       group = filled-nothing 0 group_size;
       coefficients = filled-nothing (pos 0) coefficient_size;
@@ -57,7 +58,7 @@ certified-refused order list_size group_size coefficient_size number place e =
 pub record CertifiedHeld (order : Order) (list_size group_size coefficient_size : ℕ) (found : CertifiedListing)
     (end : CertifiedEnd) : Type 0 where
   pub answer : end.answer
-      ≡ Moves (length found.listing.rows) (length found.listing.table) found.listing.stored found.listing.sums
+      ≡ accepted (Moves (length found.listing.rows) (length found.listing.table) found.listing.stored found.listing.sums)
   pub list : end.list ≡ filled (pos 0) list_size (numbers_of order.n found.listing.rows)
   pub group : end.group ≡ filled 0 group_size (concat found.listing.table)
   pub coefficients : end.coefficients ≡ filled (pos 0) coefficient_size (concat found.coefficients)
@@ -92,7 +93,7 @@ stored-fits order list_size group_size found e =
     used : limit ≤ list_size / order.n
     used = omega arith
 
-    go : cells_fault order.n ≡ None → order_fault order group_size ≡ None → (c : Completion)
+    go : cells_fault order.n ≡ no_fault → order_fault order group_size ≡ no_fault → (c : Completion)
         → completed table limit (generators_of order) ≡ c → listing_of table c ≡ accepted found
         → found.stored ≤ list_size / order.n
     go p q (stopped number place) r x = accepted-refused x
@@ -138,7 +139,7 @@ coefficients-size order list_size group_size coefficient_size = go (certified_li
   where
     go : (o : Outcome CertifiedListing) → certified_listing order list_size group_size coefficient_size ≡ o
         → length (certified_end order.n list_size group_size coefficient_size o).coefficients ≡ coefficient_size
-    go (refused number place) e = length-filled (pos 0) coefficient_size [] (omega arith)
+    go (Err r) e = length-filled (pos 0) coefficient_size [] (omega arith)
     go (accepted found) e =
         length-filled (pos 0) coefficient_size (concat found.coefficients)
         (coefficients-fit order list_size group_size coefficient_size found e)
@@ -152,11 +153,11 @@ front size k numbers e = take_at numbers (replicate (size - length numbers) (pos
 -- A WRITTEN LIST, as it stands in its areas, IS PASSED BY CHECK with the same order and every group area that has
 -- room for the group
 pub areas-passed : (order : Order) (list_size group_size coefficient_size rows g stored sums : ℕ)
-    → (certified_call order list_size group_size coefficient_size).answer ≡ Moves rows g stored sums
+    → (certified_call order list_size group_size coefficient_size).answer ≡ accepted (Moves rows g stored sums)
     → (other : ℕ) → whole_rows order.n other ≡ true → g ≤ other / order.n
     → (check_call order (take (rows * order.n) (certified_call order list_size group_size coefficient_size).list)
     (take (rows * length (generators_of order)) (certified_call order list_size group_size coefficient_size).coefficients) other).answer
-    ≡ Passed rows (sum_count g rows)
+    ≡ accepted (Passed rows (sum_count g rows))
 unfolding certified_call certified_end list_end
 areas-passed order list_size group_size coefficient_size rows g stored sums q other whole room =
     go (certified_listing order list_size group_size coefficient_size) refl q
@@ -165,11 +166,11 @@ areas-passed order list_size group_size coefficient_size rows g stored sums q ot
     ended o = certified_end order.n list_size group_size coefficient_size o
 
     go : (o : Outcome CertifiedListing) → certified_listing order list_size group_size coefficient_size ≡ o
-        → (ended o).answer ≡ Moves rows g stored sums
+        → (ended o).answer ≡ accepted (Moves rows g stored sums)
         → (check_call order (take (rows * order.n) (ended o).list)
         (take (rows * length (generators_of order)) (ended o).coefficients) other).answer
-        ≡ Passed rows (sum_count g rows)
-    go (refused number place) e a = let z : ◌≡◌ {A = ℕ} 0 1 = cc in absurd (omega arith)
+        ≡ accepted (Passed rows (sum_count g rows))
+    go (Err r) e a = let z : ◌≡◌ {A = ℕ} 0 1 = cc in absurd (omega arith)
     go (accepted found) e a =
         let r : length found.listing.rows ≡ rows = cc in
         let t : length found.listing.table ≡ g = cc in
@@ -179,4 +180,4 @@ areas-passed order list_size group_size coefficient_size rows g stored sums q ot
         (front coefficient_size (rows * length (generators_of order)) (concat found.coefficients)
         (given-long order list_size group_size coefficient_size found e ∙ ap (λ (k : ℕ). k * length (generators_of order)) r))
         ∙ written-passed order list_size group_size coefficient_size found e other whole (omega (arith, room, t))
-        ∙ ap₂ (λ (k l : ℕ). Passed k (sum_count l k)) r t
+        ∙ ap₂ (λ (k l : ℕ). (accepted (Passed k (sum_count l k)))) r t

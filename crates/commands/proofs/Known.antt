@@ -10,7 +10,7 @@ use lib.ListN.{length, get_or}
 use borrow.Author.Tests.{lt-ltb, le-ltb, ltb-true, ltb-false}
 use Rattle.commands.specs.declared.Command.{Command}
 use Rattle.commands.specs.declared.Command.TheVariants.{Size, Generator, Exchange, Row, Coefficients, Vector, Image, End}
-use Rattle.commands.specs.declared.Reading.TheVariants.{Known, Unknown, Past}
+use Rattle.commands.specs.declared.Reading.TheVariants.{Known, Past}
 use Rattle.commands.specs.Commands.{command_of, command_at, code_of, operands_of, width_of}
 
 -- no byte is left
@@ -22,24 +22,6 @@ past-at order at h = rw (le-ltb at (length order) h)
 pub byte-at : (order : List ℕ) (at b : ℕ) → at < length order → get_or order at 0 ≡ b → command_at order at ≡ command_of b (at + 1)
 unfolding command_at
 byte-at order at b h e = rw (lt-ltb at (length order) h) (ap (λ (x : ℕ). command_of x (at + 1)) e)
-
--- and it is none of the known ones
-pub unknown-at : (order : List ℕ) (at : ℕ) → at < length order →
-    let b = get_or order at 0 in
-    (b ≡ 0 → ⊥) → (b ≡ 1 → ⊥) → (b ≡ 2 → ⊥) → (b ≡ 3 → ⊥) → (b ≡ 4 → ⊥) → (b ≡ 5 → ⊥) → (b ≡ 6 → ⊥) → (b ≡ 7 → ⊥) → command_at order at ≡ Unknown
-unfolding command_of
-unknown-at order at h n₀ n₁ n₂ n₃ n₄ n₅ n₆ n₇ = byte-at order at (get_or order at 0) h refl ∙ other (get_or order at 0) n₀ n₁ n₂ n₃ n₄ n₅ n₆ n₇
-  where
-    other : (b : ℕ) → (b ≡ 0 → ⊥) → (b ≡ 1 → ⊥) → (b ≡ 2 → ⊥) → (b ≡ 3 → ⊥) → (b ≡ 4 → ⊥) → (b ≡ 5 → ⊥) → (b ≡ 6 → ⊥) → (b ≡ 7 → ⊥) → command_of b (at + 1) ≡ Unknown
-    other zero n₀ n₁ n₂ n₃ n₄ n₅ n₆ n₇ = absurd (n₀ refl)
-    other (suc zero) n₀ n₁ n₂ n₃ n₄ n₅ n₆ n₇ = absurd (n₁ refl)
-    other (suc (suc zero)) n₀ n₁ n₂ n₃ n₄ n₅ n₆ n₇ = absurd (n₂ refl)
-    other (suc (suc (suc zero))) n₀ n₁ n₂ n₃ n₄ n₅ n₆ n₇ = absurd (n₃ refl)
-    other (suc (suc (suc (suc zero)))) n₀ n₁ n₂ n₃ n₄ n₅ n₆ n₇ = absurd (n₄ refl)
-    other (suc (suc (suc (suc (suc zero))))) n₀ n₁ n₂ n₃ n₄ n₅ n₆ n₇ = absurd (n₅ refl)
-    other (suc (suc (suc (suc (suc (suc zero)))))) n₀ n₁ n₂ n₃ n₄ n₅ n₆ n₇ = absurd (n₆ refl)
-    other (suc (suc (suc (suc (suc (suc (suc zero))))))) n₀ n₁ n₂ n₃ n₄ n₅ n₆ n₇ = absurd (n₇ refl)
-    other (suc (suc (suc (suc (suc (suc (suc (suc b)))))))) n₀ n₁ n₂ n₃ n₄ n₅ n₆ n₇ = refl
 
 -- the operands of a byte's command start where they are said to
 of-operands : (b p : ℕ) (c : Command) → command_of b p ≡ Known c → operands_of c ≡ p

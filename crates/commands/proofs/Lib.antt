@@ -1,4 +1,2 @@
--- Laws of the commands and of two's complement.
-pub mod Twos
-pub mod Little
+-- Laws of the commands.
 pub mod Known

@@ -4,7 +4,7 @@
 ghost use Rattle.std.specs.Prelude.{◌≡◌, ◌+◌, ◌≤◌, ◌<◌, ◌^◌, length};
 ghost use Rattle.definitions.specs.Limits.{cells, generator_limit};
 ghost use Rattle.commands.specs.Commands.{behind, command_at, code_of, operands_of, width_of};
-ghost use Rattle.commands.specs.Decode.{byte_at, signed_of, little_at, short_at, word_at};
+ghost use Rattle.commands.specs.Decode.{byte_at, short_at, word_at};
 
 // A command, with the offset where its operands start.
 #[derive(Clone, Copy)]
@@ -45,6 +45,7 @@ pub const VECTOR: usize = 6;
 pub const IMAGE: usize = 7;
 
 // The command that is due at an offset.
+#[tactic(auto, unfolding(crate::specs::Commands::command_at, crate::specs::Commands::command_of))]
 pub fn command_at(order: &[u8], at: usize) -> Reading
     ensures due { result ≡ command_at order.now at }
 {
@@ -87,14 +88,14 @@ pub fn operands_of(command: Command) -> usize
     ensures start { result ≡ operands_of command }
 {
     match command {
-        Command::End(p) => p,
-        Command::Size(p) => p,
-        Command::Generator(p) => p,
-        Command::Exchange(p) => p,
-        Command::Row(p) => p,
-        Command::Coefficients(p) => p,
-        Command::Vector(p) => p,
-        Command::Image(p) => p,
+        Command::End(p)
+        | Command::Size(p)
+        | Command::Generator(p)
+        | Command::Exchange(p)
+        | Command::Row(p)
+        | Command::Coefficients(p)
+        | Command::Vector(p)
+        | Command::Image(p) => p,
     }
 }
 
@@ -132,46 +133,12 @@ pub fn byte_at(part: &[u8], at: usize) -> u8
     part[at]
 }
 
-// A byte, as a wide number.
-fn wide(byte: u8) -> u64
-    ensures byte { (result ≡ byte) × (result < 256) }
-{
-    byte as u64
-}
-
-// The unsigned number of some bytes, the least significant first.
-fn little_at(part: &[u8], at: usize, bytes: usize) -> u64
-    requires room { (at + bytes ≤ length part.now) × (bytes ≤ 8) }
-    ensures number { (result ≡ little_at part.now at bytes) × (result < 256 ^ bytes) }
-{
-    let mut v: u64 = 0;
-    let mut i = bytes;
-    while 0 < i {
-        i -= 1;
-        v = wide(part[at + i]) + 256 * v;
-    }
-    v
-}
-
-// The signed number whose bits in two's complement are those of v; half is the least number with the sign bit.
-fn signed(v: u64, half: u64) -> i64
-    requires bits { (0 < half) × (half ≤ 2 ^ 63) × (v < half + half) }
-    ensures number { result ≡ signed_of half v }
-{
-    if v < half {
-        return v as i64;
-    }
-    let top = half - 1 + half;
-    let below = (top - v) as i64;
-    -below - 1
-}
-
 // The signed number of two bytes, in a part of the order.
 pub fn short_at(part: &[u8], at: usize) -> i32
     requires room { at + 2 ≤ length part.now }
     ensures number { result ≡ short_at part.now at }
 {
-    signed(little_at(part, at, 2), 0x8000) as i32
+    i32::from(i16::from_le_bytes([part[at], part[at + 1]]))
 }
 
 // The signed number of four bytes, in a part of the order.
@@ -179,5 +146,5 @@ pub fn word_at(part: &[u8], at: usize) -> i32
     requires room { at + 4 ≤ length part.now }
     ensures number { result ≡ word_at part.now at }
 {
-    signed(little_at(part, at, 4), 0x8000_0000) as i32
+    i32::from_le_bytes([part[at], part[at + 1], part[at + 2], part[at + 3]])
 }

@@ -1,4 +1,2 @@
 -- Laws that the proofs of the functions on costs and bounds share.
-pub mod Bounds
 pub mod Sums
-pub mod Tests

@@ -1,6 +1,6 @@
 -- The tests of a problem in lent areas, by the definitions (Specification 3.10). Assumes nothing.
+use Rattle.definitions.specs.Refusals.{Fault}
 use Rattle.std.specs.Prelude.{List, [], ℕ, ℤ, length}
-use Rattle.definitions.specs.declared.Fault.{Fault}
 use Rattle.definitions.specs.Refusals.{fault_where}
 use Rattle.definitions.specs.Plan.{Problem, is_misplanned}
 use Rattle.vectors.specs.Areas.{Lent}

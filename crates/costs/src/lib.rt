@@ -8,9 +8,9 @@ ghost use Rattle.definitions.specs.Plan.{cost, feasible, is_bounded, problem_fau
 ghost use Rattle.vectors.specs.Bounds.{headroom};
 ghost use Rattle.costs.specs.Problems.{bounds_fault, problem_in};
 
-use definitions::Fault;
+use definitions::Refusal;
 use definitions::limits::{BOUND_LIMIT, BUDGET_LIMIT, CELLS, COST_LIMIT};
-use refusals::past_fault;
+use refusals::{fault_if, fault_where, past_fault};
 
 // The cost of a plan or of a vector: the sum over the cells of cost times entry.
 pub fn cost(costs: [i32; CELLS], v: [i32; CELLS]) -> i64
@@ -19,10 +19,8 @@ pub fn cost(costs: [i32; CELLS], v: [i32; CELLS]) -> i64
     ensures made { result ≡ cost costs v }
 {
     let mut sum: i64 = 0;
-    let mut i = CELLS;
-    while 0 < i {
-        i -= 1;
-        sum = costs[i] as i64 * v[i] as i64 + sum;
+    for i in (0..CELLS).rev() {
+        sum += costs[i] as i64 * v[i] as i64;
     }
     sum
 }
@@ -38,22 +36,19 @@ fn is_bounded(bound: i32, x: i32) -> bool
 pub fn feasible(upper: [i32; CELLS], v: [i32; CELLS]) -> bool
     ensures told { result ≡ feasible upper v }
 {
-    let mut fits = true;
-    let mut cell = 0;
-    while cell < CELLS {
-        fits = fits & is_bounded(upper[cell], v[cell]);
-        cell += 1;
-    }
-    fits
+    upper
+        .iter()
+        .zip(&v)
+        .all(|(bound, x)| is_bounded(*bound, *x))
 }
 
 // The larger of an entry within its bounds and the bound less the entry.
-fn larger_part(bound: i32, x: i32) -> u64
+fn larger_part(bound: i32, x: i32) -> u32
     requires bounded { is_bounded bound x ≡ true }
     ensures made { result ≡ max (nat_abs x) (nat_abs (bound -ℤ x)) }
 {
     let rest = bound - x;
-    if x < rest { rest as u64 } else { x as u64 }
+    x.max(rest) as u32
 }
 
 // The sum over the cells of the larger of the entry and the upper bound less the entry, of a plan within its bounds.
@@ -62,10 +57,8 @@ pub fn reach(upper: [i32; CELLS], x: [i32; CELLS]) -> u64
     ensures made { result ≡ reach upper x }
 {
     let mut sum: u64 = 0;
-    let mut i = CELLS;
-    while 0 < i {
-        i -= 1;
-        sum += larger_part(upper[i], x[i]);
+    for i in (0..CELLS).rev() {
+        sum += u64::from(larger_part(upper[i], x[i]));
     }
     sum
 }
@@ -74,22 +67,14 @@ pub fn reach(upper: [i32; CELLS], x: [i32; CELLS]) -> u64
 
 // Refusal 26: the first cell with an upper bound out of its range, or a starting entry out of its bounds
 // (Specification 7.2).
-fn bounds_fault(start: &[i32], upper: &[i32]) -> Fault
+fn bounds_fault(start: &[i32], upper: &[i32]) -> Result<(), Refusal>
     requires same { length start.now ≡ length upper.now }
     ensures found { result ≡ bounds_fault start.now upper.now }
 {
-    let mut cell = 0;
-    while cell < start.len() {
+    fault_where(26, start.len(), |cell| {
         let bound = upper[cell];
-        if !is_bounded(BOUND_LIMIT, bound) | !is_bounded(bound, start[cell]) {
-            return Fault::At {
-                number: 26,
-                place: cell as u64,
-            };
-        }
-        cell += 1;
-    }
-    Fault::None
+        !is_bounded(BOUND_LIMIT, bound) | !is_bounded(bound, start[cell])
+    })
 }
 
 // Whether the budget and the sizes are as they should be (Specification 7.3).
@@ -117,18 +102,10 @@ pub fn problem_fault(
     costs: &[i32],
     budget: usize,
     plan: usize,
-) -> Fault
+) -> Result<(), Refusal>
     ensures found { result ≡ problem_fault n (problem_in start upper costs budget) plan }
 {
-    if !problem_fits(n, start, upper, costs, budget, plan) {
-        return Fault::At {
-            number: 6,
-            place: 0,
-        };
-    }
-    let bounds = bounds_fault(start, upper);
-    match bounds {
-        Fault::At { number, place } => Fault::At { number, place },
-        Fault::None => past_fault(costs, 27, COST_LIMIT),
-    }
+    fault_if(6, !problem_fits(n, start, upper, costs, budget, plan))?;
+    bounds_fault(start, upper)?;
+    past_fault(costs, 27, COST_LIMIT)
 }

@@ -1,10 +1,10 @@
 -- Specification 1.1 and 7.4: the lent calls. For each input the answer, and what every area lent for writing
 -- holds at the end. Such an area is given by its size. Assumes nothing.
+use Rattle.std.specs.declared.result.Result.TheVariants.{Err}
+use Rattle.definitions.specs.Refusals.{Fault, no_fault}
 use Rattle.std.specs.Prelude.{List, [], ◌∷◌, map, ℕ, ◌/◌, ℤ, pos, length}
 use Rattle.definitions.specs.declared.Answer.{Answer}
-use Rattle.definitions.specs.declared.Answer.TheVariants.{Moves, Split, Passed, Refused}
-use Rattle.definitions.specs.declared.Fault.{Fault}
-use Rattle.definitions.specs.declared.Fault.TheVariants.{None, At}
+use Rattle.definitions.specs.declared.Answer.TheVariants.{Moves, Split, Passed}
 use Rattle.definitions.specs.Lists.{concat}
 use Rattle.definitions.specs.Vector.{Vector, padded}
 use Rattle.definitions.specs.Group.{Exchange}
@@ -41,16 +41,16 @@ listing order list_size group_size =
 
 -- the end of a List: its answer, and its areas
 pub record ListEnd : Type 0 where
-  pub answer : Answer
+  pub answer : Outcome Answer
   pub list : List ℤ
   pub group : List ℕ
 
 unfoldable pub list_end : (n list_size group_size : ℕ) → Outcome Listing → ListEnd
-list_end n list_size group_size (refused number place) =
-    record { answer = Refused number place; list = filled (pos 0) list_size []; group = filled 0 group_size [] }
+list_end n list_size group_size (Err r) =
+    record { answer = refused r.number r.place; list = filled (pos 0) list_size []; group = filled 0 group_size [] }
 list_end n list_size group_size (accepted found) =
     record {
-      answer = Moves (length found.rows) (length found.table) found.stored found.sums;
+      answer = accepted (Moves (length found.rows) (length found.table) found.stored found.sums);
       list = filled (pos 0) list_size (numbers_of n found.rows);
       group = filled 0 group_size (concat found.table);
     }
@@ -71,7 +71,7 @@ listed_coefficients table coefficients (stopped number place) = []
 listed_coefficients table coefficients (running s) = final_coefficients table s.rows coefficients
 
 unfoldable pub with_coefficients : (coefficients : List (List ℤ)) → Outcome Listing → Outcome CertifiedListing
-with_coefficients coefficients (refused number place) = refused number place
+with_coefficients coefficients (Err r) = refused r.number r.place
 with_coefficients coefficients (accepted found) = accepted (record { listing = found; coefficients = coefficients })
 
 unfoldable pub certified_listing_of : (table : List Exchange) → CertifiedCompletion → Outcome CertifiedListing
@@ -88,14 +88,14 @@ certified_listing order list_size group_size coefficient_size =
 
 -- its end: that of a List, and the coefficients area
 pub record CertifiedEnd : Type 0 where
-  pub answer : Answer
+  pub answer : Outcome Answer
   pub list : List ℤ
   pub group : List ℕ
   pub coefficients : List ℤ
 
 unfoldable pub certified_end : (n list_size group_size coefficient_size : ℕ) → Outcome CertifiedListing → CertifiedEnd
-certified_end n list_size group_size coefficient_size (refused number place) =
-    let end = list_end n list_size group_size (refused number place) in
+certified_end n list_size group_size coefficient_size (Err r) =
+    let end = list_end n list_size group_size (refused r.number r.place) in
     record {
       answer = end.answer;
       list = end.list;
@@ -125,7 +125,7 @@ pub record Parts : Type 0 where
 
 -- 14 to 16, once the List has ended
 unfoldable pub parts_of : (vector : List ℤ) (pieces_size : ℕ) → Outcome Listing → Outcome Parts
-parts_of vector pieces_size (refused number place) = refused number place
+parts_of vector pieces_size (Err r) = refused r.number r.place
 parts_of vector pieces_size (accepted found) =
     let taken = splitting (placed_orbits 0 found.table found.rows) (padded vector) in
     unless_fault (split_fault vector pieces_size taken) (accepted (record { listing = found; pieces = taken.pieces }))
@@ -138,15 +138,15 @@ parts order vector list_size group_size pieces_size =
 
 -- the end of a Split: its answer, and its areas
 pub record SplitEnd : Type 0 where
-  pub answer : Answer
+  pub answer : Outcome Answer
   pub list : List ℤ
   pub group : List ℕ
   pub pieces : List ℤ
 
 unfoldable pub split_end : (n list_size group_size pieces_size : ℕ) → Outcome Parts → SplitEnd
-split_end n list_size group_size pieces_size (refused number place) =
+split_end n list_size group_size pieces_size (Err r) =
     record {
-      answer = Refused number place;
+      answer = refused r.number r.place;
       list = filled (pos 0) list_size [];
       group = filled 0 group_size [];
       pieces = filled (pos 0) pieces_size [];
@@ -155,8 +155,8 @@ split_end n list_size group_size pieces_size (accepted found) =
     let listed = found.listing in
     record {
       answer =
-          Split (length found.pieces) (length listed.rows) (length listed.table) listed.stored
-          listed.sums;
+          accepted (Split (length found.pieces) (length listed.rows) (length listed.table) listed.stored
+          listed.sums);
       list = filled (pos 0) list_size (numbers_of n listed.rows);
       group = filled 0 group_size (concat listed.table);
       pieces = filled (pos 0) pieces_size (concat (map written found.pieces));
@@ -186,14 +186,14 @@ check_fault order rows coefficients group_size =
 
 -- the end of a Check: its answer, and its area
 pub record CheckEnd : Type 0 where
-  pub answer : Answer
+  pub answer : Outcome Answer
   pub group : List ℕ
 
 unfoldable pub check_end : (group_size rows : ℕ) (table : List Exchange) → Fault → CheckEnd
-check_end group_size rows table (At number place) =
-    record { answer = Refused number place; group = filled 0 group_size [] }
-check_end group_size rows table None =
-    record { answer = Passed rows (sum_count (length table) rows); group = filled 0 group_size (concat table) }
+check_end group_size rows table (Err r) =
+    record { answer = refused r.number r.place; group = filled 0 group_size [] }
+check_end group_size rows table no_fault =
+    record { answer = accepted (Passed rows (sum_count (length table) rows)); group = filled 0 group_size (concat table) }
 
 unfoldable pub check_call : Order → (rows coefficients : List ℤ) (group_size : ℕ) → CheckEnd
 check_call order rows coefficients group_size =

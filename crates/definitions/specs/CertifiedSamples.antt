@@ -1,7 +1,8 @@
 -- Specification 10: the proved sample orders of the List with coefficients. Assumes nothing.
+use Rattle.definitions.specs.Refusals.{Outcome, accepted, refused}
 use Rattle.std.specs.Prelude.{◌≡◌, List, [], ◌∷◌, ◌++◌, ℕ, ◌*◌, ◌-◌, ◌/◌, ℤ, pos, neg_ℤ, length, replicate}
 use Rattle.definitions.specs.declared.Answer.{Answer}
-use Rattle.definitions.specs.declared.Answer.TheVariants.{Moves, Refused}
+use Rattle.definitions.specs.declared.Answer.TheVariants.{Moves}
 use Rattle.definitions.specs.Lent.{Order, order_of}
 use Rattle.definitions.specs.Calls.{CertifiedEnd, certified_call}
 
@@ -28,7 +29,7 @@ abbrev −◌ : ℕ → ℤ
 
 -- the line of an order of m generators: the answer, and in their areas the rows, the exchanges and the coefficients,
 -- with zeros behind them
-line : Order → (m list_rows group_rows : ℕ) → Answer → (rows : List ℤ) (table : List ℕ) (coefficients : List ℤ)
+line : Order → (m list_rows group_rows : ℕ) → Outcome Answer → (rows : List ℤ) (table : List ℕ) (coefficients : List ℤ)
     → CertifiedSample
 line order m list_rows group_rows answer rows table coefficients =
     record {
@@ -52,61 +53,61 @@ unfoldable pub certified_samples : List CertifiedSample
 unfolding line
 certified_samples =
     -- P24: P2, (2), (3)
-    line (order_of 1 (+ 2 ∷ + 3 ∷ []) [] []) 2 3 1 (Moves 1 1 3 12)
+    line (order_of 1 (+ 2 ∷ + 3 ∷ []) [] []) 2 3 1 (accepted (Moves 1 1 3 12))
     (+ 1 ∷ [])
     (1 ∷ [])
     (− 1 ∷ + 1 ∷ [])
     -- P25: P3, (1,−1,0), (0,1,−1)
-    ∷ line (order_of 3 (+ 1 ∷ − 1 ∷ + 0 ∷ + 0 ∷ + 1 ∷ − 1 ∷ []) [] []) 2 3 1 (Moves 3 1 3 12)
+    ∷ line (order_of 3 (+ 1 ∷ − 1 ∷ + 0 ∷ + 0 ∷ + 1 ∷ − 1 ∷ []) [] []) 2 3 1 (accepted (Moves 3 1 3 12))
     (+ 1 ∷ + 0 ∷ − 1 ∷ + 1 ∷ − 1 ∷ + 0 ∷ + 0 ∷ + 1 ∷ − 1 ∷ [])
     (1 ∷ 2 ∷ 3 ∷ [])
     (+ 1 ∷ + 1 ∷ + 1 ∷ + 0 ∷ + 0 ∷ + 1 ∷ [])
     -- P26: P4, the order of the sample file
     ∷ line (order_of 3 (+ 1 ∷ + 0 ∷ − 1 ∷ + 2 ∷ − 1 ∷ + 0 ∷ + 0 ∷ − 1 ∷ + 2 ∷ [])
-    (3 ∷ 2 ∷ 1 ∷ []) []) 3 3 2 (Moves 3 2 3 24)
+    (3 ∷ 2 ∷ 1 ∷ []) []) 3 3 2 (accepted (Moves 3 2 3 24))
     (+ 1 ∷ + 0 ∷ − 1 ∷ + 2 ∷ − 1 ∷ + 0 ∷ + 1 ∷ − 1 ∷ + 1 ∷ [])
     (1 ∷ 2 ∷ 3 ∷ 3 ∷ 2 ∷ 1 ∷ [])
     (+ 1 ∷ + 0 ∷ + 0 ∷ + 0 ∷ + 1 ∷ + 0 ∷ − 1 ∷ + 1 ∷ + 0 ∷ [])
     -- P27: (−1), (1): a negative image has the image's coefficients, negated
-    ∷ line (order_of 1 (− 1 ∷ + 1 ∷ []) [] []) 2 1 1 (Moves 1 1 1 2)
+    ∷ line (order_of 1 (− 1 ∷ + 1 ∷ []) [] []) 2 1 1 (accepted (Moves 1 1 1 2))
     (+ 1 ∷ [])
     (1 ∷ [])
     (− 1 ∷ + 0 ∷ [])
     -- P28: (1), (1), (−1): of equal generators the lowest counts
-    ∷ line (order_of 1 (+ 1 ∷ + 1 ∷ − 1 ∷ []) [] []) 3 1 1 (Moves 1 1 1 2)
+    ∷ line (order_of 1 (+ 1 ∷ + 1 ∷ − 1 ∷ []) [] []) 3 1 1 (accepted (Moves 1 1 1 2))
     (+ 1 ∷ [])
     (1 ∷ [])
     (+ 1 ∷ + 0 ∷ + 0 ∷ [])
     -- P29: (2,2), (−2,2), (2,−2), exchange 2 1: an equal generator counts before one whose negative is equal
-    ∷ line (order_of 2 (+ 2 ∷ + 2 ∷ − 2 ∷ + 2 ∷ + 2 ∷ − 2 ∷ []) (2 ∷ 1 ∷ []) []) 3 3 2 (Moves 3 2 3 24)
+    ∷ line (order_of 2 (+ 2 ∷ + 2 ∷ − 2 ∷ + 2 ∷ + 2 ∷ − 2 ∷ []) (2 ∷ 1 ∷ []) []) 3 3 2 (accepted (Moves 3 2 3 24))
     (+ 2 ∷ − 2 ∷ + 4 ∷ + 0 ∷ + 2 ∷ + 2 ∷ [])
     (1 ∷ 2 ∷ 2 ∷ 1 ∷ [])
     (+ 0 ∷ − 1 ∷ + 0 ∷ + 1 ∷ − 1 ∷ + 0 ∷ + 1 ∷ + 0 ∷ + 0 ∷ [])
     -- P30: (1,−2), (2,−1), exchange 2 1: images that are negatives of generators
-    ∷ line (order_of 2 (+ 1 ∷ − 2 ∷ + 2 ∷ − 1 ∷ []) (2 ∷ 1 ∷ []) []) 2 4 2 (Moves 3 2 3 24)
+    ∷ line (order_of 2 (+ 1 ∷ − 2 ∷ + 2 ∷ − 1 ∷ []) (2 ∷ 1 ∷ []) []) 2 4 2 (accepted (Moves 3 2 3 24))
     (+ 2 ∷ − 1 ∷ + 1 ∷ + 1 ∷ + 3 ∷ + 0 ∷ [])
     (1 ∷ 2 ∷ 2 ∷ 1 ∷ [])
     (+ 0 ∷ + 1 ∷ − 1 ∷ + 1 ∷ − 1 ∷ + 2 ∷ [])
     -- P31: (1,0,−1), (2,−2,−2), (−2,−2,2), (−1,0,1), exchange 3 2 1: an image that is subtracted has the coefficients
     -- of its earliest position
     ∷ line (order_of 3 (+ 1 ∷ + 0 ∷ − 1 ∷ + 2 ∷ − 2 ∷ − 2 ∷ − 2 ∷ − 2 ∷ + 2 ∷ − 1 ∷ + 0 ∷ + 1 ∷ [])
-    (3 ∷ 2 ∷ 1 ∷ []) []) 4 3 2 (Moves 2 2 3 24)
+    (3 ∷ 2 ∷ 1 ∷ []) []) 4 3 2 (accepted (Moves 2 2 3 24))
     (+ 1 ∷ + 0 ∷ − 1 ∷ + 0 ∷ + 2 ∷ + 0 ∷ [])
     (1 ∷ 2 ∷ 3 ∷ 3 ∷ 2 ∷ 1 ∷ [])
     (+ 1 ∷ + 0 ∷ + 0 ∷ + 0 ∷ − 2 ∷ + 0 ∷ − 1 ∷ + 0 ∷ [])
     -- P32: (1,0,0,0), (100,1,0,0), (0,100,1,0), (0,0,100,1): a coefficient of 1,000,000 is stored
-    ∷ line (order_of 4 (chain 100) [] []) 4 7 1 (Moves 4 1 7 56)
+    ∷ line (order_of 4 (chain 100) [] []) 4 7 1 (accepted (Moves 4 1 7 56))
     (+ 1 ∷ + 0 ∷ + 0 ∷ + 0 ∷ + 0 ∷ + 1 ∷ + 0 ∷ + 0 ∷ + 0 ∷ + 0 ∷ + 1 ∷ + 0 ∷ + 0 ∷ + 0 ∷ + 0 ∷ + 1 ∷ [])
     (1 ∷ 2 ∷ 3 ∷ 4 ∷ [])
     (+ 1 ∷ + 0 ∷ + 0 ∷ + 0 ∷ − 100 ∷ + 1 ∷ + 0 ∷ + 0 ∷ + 10000 ∷ − 100 ∷ + 1 ∷ + 0
     ∷ − 1_000_000 ∷ + 10000 ∷ − 100 ∷ + 1 ∷ [])
     -- P33: P32 with 101 for the last 100: 1,010,000 is not
-    ∷ line (order_of 4 (chain 101) [] []) 4 7 1 (Refused 24 18)
+    ∷ line (order_of 4 (chain 101) [] []) 4 7 1 (refused 24 18)
     []
     []
     []
     -- P34: P33 with 6 list rows: 13 comes before it
-    ∷ line (order_of 4 (chain 101) [] []) 4 6 1 (Refused 13 18)
+    ∷ line (order_of 4 (chain 101) [] []) 4 6 1 (refused 13 18)
     []
     []
     []

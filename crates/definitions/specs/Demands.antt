@@ -1,11 +1,13 @@
 -- Specification 2.8, 3.7 to 3.10, 4.2, 5.2 and 11: what the demands promise, as types. Assumes nothing.
+use Rattle.std.specs.declared.result.Result.TheVariants.{Ok}
+use Rattle.definitions.specs.Refusals.{Outcome, refused}
+use Rattle.definitions.specs.Refusals.{no_fault, fault_at}
 use Rattle.std.specs.Prelude.{◌≡◌, true, false, ℕ, suc, ◌+◌, ◌≤◌, ◌<◌, ◌/◌, ℤ, pos, ◌+ℤ◌, ◌≤ℤ◌, ◌<ℤ◌, length, get_or, replicate}
 use mathlib.Core.List.{List, [], map, Memᴰ}
 use Rattle.definitions.specs.declared.Answer.TheVariants.{Passed}
 use Rattle.definitions.specs.declared.Answer.TheVariants as answers
 use Rattle.definitions.specs.declared.Ending.{Ending}
-use Rattle.definitions.specs.declared.Ending.TheVariants.{Moves, Unfinished, Refused}
-use Rattle.definitions.specs.declared.Fault.TheVariants.{None, At}
+use Rattle.definitions.specs.declared.Ending.TheVariants.{Moves, Unfinished}
 use Rattle.definitions.specs.Limits.{entry_limit, session_rows, stored_coefficient_limit}
 use Rattle.definitions.specs.Lists.{concat}
 use Rattle.definitions.specs.Vector.{Vector, padded, plus, minus, total, within, opposes}
@@ -69,8 +71,8 @@ pub record CertifiedKept (order : Order) (list_size group_size : ℕ) (found : C
   -- sent back to Check with the same order it is passed, in every group area that has room for the group
   pub passed : (other : ℕ) → whole_rows order.n other ≡ true → length found.listing.table ≤ other / order.n
       → (check_call order (numbers_of order.n found.listing.rows) (concat found.coefficients) other).answer
-      ≡ Passed (length found.listing.rows)
-      (sum_count (length found.listing.table) (length found.listing.rows))
+      ≡ accepted (Passed (length found.listing.rows)
+      (sum_count (length found.listing.table) (length found.listing.rows)))
 
 -- 4.2: a piece is a listed image, at the row and the position that it names, taken at least once, and opposes v in
 -- no cell
@@ -98,7 +100,7 @@ pub record ConformalSum (n : ℕ) (sent : List Exchange) (rows : List Vector) (v
 
 -- 5.2: none of the tests 5 to 11 and 17 to 19 is met
 abbrev pub RulesKept : Order → (rows coefficients : List ℤ) (group_size : ℕ) → Type 0
-RulesKept order rows coefficients group_size = rules_fault order rows coefficients group_size ≡ None
+RulesKept order rows coefficients group_size = rules_fault order rows coefficients group_size ≡ no_fault
 
 -- ---- 3.8: sessions
 
@@ -108,10 +110,10 @@ own_list order group_size = list_call order (half order.n) group_size
 
 -- the part is what that List gives: its counts or its refusal, and its list area
 pub record OwnEnd (order : Order) (group_size : ℕ) (part : Part) : Type 0 where
-  pub moves : (rows members stored sums : ℕ) → (own_list order group_size).answer ≡ answers.Moves rows members stored sums
-      → part.ending ≡ Moves rows members stored sums
-  pub refused : (number place : ℕ) → (own_list order group_size).answer ≡ answers.Refused number place
-      → part.ending ≡ Refused number place
+  pub moves : (rows members stored sums : ℕ) → (own_list order group_size).answer ≡ accepted (answers.Moves rows members stored sums)
+      → part.ending ≡ accepted (Moves rows members stored sums)
+  pub refused : (number place : ℕ) → (own_list order group_size).answer ≡ refused number place
+      → part.ending ≡ refused number place
   pub rows : part.rows ≡ (own_list order group_size).list
 
 -- the half holds a whole list, sorted, with zeros behind
@@ -119,12 +121,12 @@ pub record PartAccepted (order : Order) (group_size : ℕ) (part : Part) : Type 
   pub found : Listing
   pub listed : listing order (half order.n) group_size ≡ accepted found
   pub kept : ListKept order found
-  pub says : part.ending ≡ Moves (length found.rows) (length found.table) found.stored found.sums
+  pub says : part.ending ≡ accepted (Moves (length found.rows) (length found.table) found.stored found.sums)
   pub holds : part.rows ≡ filled (pos 0) (half order.n) (numbers_of order.n found.rows)
 
 -- an answer other than Unfinished: the order's last sum is tried, or it is refused
-abbrev pub Over : Ending → Type 0
-Over ending = (sums : ℕ) → ¬ (ending ≡ Unfinished sums)
+abbrev pub Over : Outcome Ending → Type 0
+Over ending = (sums : ℕ) → ¬ (ending ≡ accepted (Unfinished sums))
 
 -- zeros alone
 abbrev pub Blank : (rows : List ℤ) → Type 0
@@ -138,16 +140,16 @@ pub record SameShape (order order' : Order) : Type 0 where
 -- an order, with `count` steps that name it, beside another; `part` is its part beside any other
 pub record PartKept (order other : Order) (list_size group_size count : ℕ) (part : Order → Part) : Type 0 where
   -- but for the shared 5 and 6 and a differing exchange, once its last sum is tried, its part is its own
-  pub own : shared_fault order other list_size ≡ None → difference_fault order other ≡ None → Over (part other).ending
+  pub own : shared_fault order other list_size ≡ no_fault → difference_fault order other ≡ no_fault → Over (part other).ending
       → OwnEnd order group_size (part other)
   -- so it is with a fault of its own up to 9, whatever exchanges the other has
-  pub early : (number place : ℕ) → shared_fault order other list_size ≡ None → own_fault order group_size ≡ At number place
+  pub early : (number place : ℕ) → shared_fault order other list_size ≡ no_fault → own_fault order group_size ≡ fault_at number place
       → OwnEnd order group_size (part other)
-  pub accepted : (rows members stored sums : ℕ) → (part other).ending ≡ Moves rows members stored sums
+  pub accepted : (rows members stored sums : ℕ) → (part other).ending ≡ accepted (Moves rows members stored sums)
       → PartAccepted order group_size (part other)
-  pub refused : (number place : ℕ) → (part other).ending ≡ Refused number place → Blank (part other).rows
+  pub refused : (number place : ℕ) → (part other).ending ≡ refused number place → Blank (part other).rows
   -- with sums left it has tried a sum at each of its steps
-  pub unfinished : (sums : ℕ) → (part other).ending ≡ Unfinished sums → (sums ≡ count) × Blank (part other).rows
+  pub unfinished : (sums : ℕ) → (part other).ending ≡ Ok (Unfinished sums) → (sums ≡ count) × Blank (part other).rows
   -- so many steps always suffice
   pub finishes : sum_count (length (table_of order group_size)) session_rows ≤ count → Over (part other).ending
   -- TWO RUNS: a change in the other's generators or images changes nothing of the part
@@ -156,8 +158,8 @@ pub record PartKept (order other : Order) (list_size group_size count : ℕ) (pa
 -- ---- the areas of a session
 
 -- an answer that is no refusal
-abbrev pub Left : Ending → Type 0
-Left ending = (number place : ℕ) → ¬ (ending ≡ Refused number place)
+abbrev pub Left : Outcome Ending → Type 0
+Left ending = (number place : ℕ) → ¬ (ending ≡ refused number place)
 
 -- the list area is two halves, the exchanges make one table, and the group area holds it
 pub record TableKept (first second : Order) (list_size group_size : ℕ) (group : List ℕ) : Type 0 where
@@ -170,7 +172,7 @@ pub record TableKept (first second : Order) (list_size group_size : ℕ) (group 
 pub record AreasKept (first second : Order) (list_size group_size : ℕ) (end : SessionEnd) : Type 0 where
   pub first_left : Left end.first → TableKept first second list_size group_size end.group
   pub second_left : Left end.second → TableKept first second list_size group_size end.group
-  pub zeros : (m p m' p' : ℕ) → end.first ≡ Refused m p → end.second ≡ Refused m' p'
+  pub zeros : (m p m' p' : ℕ) → end.first ≡ refused m p → end.second ≡ refused m' p'
       → (end.list ≡ replicate list_size (pos 0)) × (end.group ≡ replicate group_size 0)
 
 -- ---- 3.9: windows

@@ -1,18 +1,19 @@
 -- Specification 3.10: the best plan within a budget. For each input the answer, and what every area lent for writing
 -- holds at the end. Such an area is given by its size. Assumes nothing.
+use Rattle.definitions.specs.Refusals.{refused}
+use Rattle.std.specs.declared.result.Result.TheVariants.{Err}
+use Rattle.definitions.specs.Refusals.{Fault, no_fault}
 use Rattle.std.specs.Prelude.{Bool, true, false, ◌&&◌, ◌||◌, not, List, [], ◌∷◌, ℕ, suc, ◌+◌, ◌*◌, max, leb, ltb, eqb, ℤ, pos, negsuc, nat_abs, ◌+ℤ◌, ◌-ℤ◌, ◌*ℤ◌, length, get_or, take, if◌then◌else◌}
 use Rattle.std.specs.Int.Signed.{non_neg, le_z}
-use Rattle.definitions.specs.declared.Fault.{Fault}
-use Rattle.definitions.specs.declared.Fault.TheVariants.{None, At}
 use Rattle.definitions.specs.declared.Planned.{Planned}
-use Rattle.definitions.specs.declared.Planned.TheVariants.{Cheapest, Spent, Refused}
+use Rattle.definitions.specs.declared.Planned.TheVariants.{Cheapest, Spent}
 use Rattle.definitions.specs.declared.Terms.{Terms}
 use Rattle.definitions.specs.Limits.{bound_limit, budget_limit, cost_limit}
 use Rattle.definitions.specs.Lists.{concat, until}
 use Rattle.definitions.specs.Vector.{Vector, padded, plus, zero_vector}
 use Rattle.definitions.specs.Orbit.{orbits}
 use Rattle.definitions.specs.Lent.{Order, filled, numbers_of}
-use Rattle.definitions.specs.Refusals.{Outcome, accepted, refused, first_fault, fault_if, fault_where, is_past}
+use Rattle.definitions.specs.Refusals.{Outcome, accepted, first_fault, fault_if, fault_where, is_past}
 use Rattle.definitions.specs.Calls.{Listing, listing}
 
 -- what a planner sends besides an order: a starting plan, an upper bound and a cost for each cell, and the most steps
@@ -128,7 +129,7 @@ problem_fault n problem plan_size =
 
 -- the end of the call: its answer, and its areas
 pub record PlanEnd : Type 0 where
-  pub answer : Planned
+  pub answer : Outcome Planned
   pub list : List ℤ
   pub group : List ℕ
   pub plan : List ℤ
@@ -136,7 +137,7 @@ pub record PlanEnd : Type 0 where
 unfoldable pub plan_refused : PlanRoom → (number place : ℕ) → PlanEnd
 plan_refused room number place =
     record {
-      answer = Refused number place;
+      answer = refused number place;
       list = filled (pos 0) room.list [];
       group = filled 0 room.group [];
       plan = filled (pos 0) room.plan [];
@@ -147,13 +148,13 @@ unfoldable pub terms_of : Problem → Terms
 terms_of problem = record { upper = padded problem.upper; costs = padded problem.costs }
 
 -- a cheapest plan, or one with its distance bound, and the counts of the List
-unfoldable pub planned_at : Terms → Listing → Stage → Planned
+unfoldable pub planned_at : Terms → Listing → Stage → Outcome Planned
 planned_at terms found s =
     let images = orbits found.table found.rows in
     let rows = length found.rows in
     let members = length found.table in
-    if is_cheapest terms images s then Cheapest s.steps rows members found.stored found.sums
-    else Spent s.steps (distance_bound terms images s.plan) rows members found.stored found.sums
+    if is_cheapest terms images s then accepted (Cheapest s.steps rows members found.stored found.sums)
+    else accepted (Spent s.steps (distance_bound terms images s.plan) rows members found.stored found.sums)
 
 unfoldable pub plan_reached : (n : ℕ) → PlanRoom → Terms → Listing → Stage → PlanEnd
 plan_reached n room terms found s =
@@ -166,15 +167,15 @@ plan_reached n room terms found s =
 
 -- the descent, once 6, 26 and 27 are tested
 unfoldable pub descended_end : (n : ℕ) → Problem → PlanRoom → Listing → Fault → PlanEnd
-descended_end n problem room found (At number place) = plan_refused room number place
-descended_end n problem room found None =
+descended_end n problem room found (Err r) = plan_refused room r.number r.place
+descended_end n problem room found no_fault =
     let terms = terms_of problem in
     let images = orbits found.table found.rows in
     plan_reached n room terms found (descent terms images problem.budget (padded problem.start))
 
 -- the tests and the descent, once the List has ended
 unfoldable pub plan_of : (n : ℕ) → Problem → PlanRoom → Outcome Listing → PlanEnd
-plan_of n problem room (refused number place) = plan_refused room number place
+plan_of n problem room (Err r) = plan_refused room r.number r.place
 plan_of n problem room (accepted found) = descended_end n problem room found (problem_fault n problem room.plan)
 
 unfoldable pub plan_call : Order → Problem → PlanRoom → PlanEnd

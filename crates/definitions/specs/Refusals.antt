@@ -1,8 +1,9 @@
 -- Specification 7: the table of refusals, for lent calls. 12 and 13 are in Completion, 24 in Certified. Assumes
 -- nothing.
-use Rattle.std.specs.Prelude.{Bool, false, ◌&&◌, ◌||◌, not, List, [], ◌∷◌, ◌++◌, map, ℕ, zero, suc, ◌+◌, ◌*◌, ◌/◌, ℤ, pos, nat_abs, leb, eqb, length, get_or, if◌then◌else◌}
-use Rattle.definitions.specs.declared.Fault.{Fault}
-use Rattle.definitions.specs.declared.Fault.TheVariants.{None, At}
+use Rattle.std.specs.declared.result.Result.{Result}
+use Rattle.std.specs.declared.result.Result.TheVariants.{Ok, Err}
+use Rattle.definitions.specs.declared.Refusal.{Refusal}
+use Rattle.std.specs.Prelude.{⊤, Bool, false, ◌&&◌, ◌||◌, not, List, [], ◌∷◌, ◌++◌, map, ℕ, zero, suc, ◌+◌, ◌*◌, ◌/◌, ℤ, pos, nat_abs, leb, eqb, length, get_or, if◌then◌else◌}
 use Rattle.definitions.specs.Limits.{cells, entry_limit, split_limit, coefficient_limit}
 use Rattle.definitions.specs.Limits.{list_limit, generator_limit, exchange_limit, bare_limit, image_limit, piece_width}
 use Rattle.definitions.specs.Lists.{any}
@@ -18,36 +19,51 @@ use Rattle.definitions.specs.Lent.{whole_rows, whole_rows_up_to, chunks}
 
 -- ---- 7.1: how tests are run
 
+-- what a call finds, or the number and the place of its refusal
+abbrev pub Outcome : (A : Type 0) → Type 0
+Outcome A = Result A Refusal
+
+pattern abbrev pub accepted : {A : Type 0} → A → Outcome A
+accepted found = Ok found
+
+abbrev pub refused : {A : Type 0} → (number place : ℕ) → Outcome A
+refused number place = Err (record { number = number; place = place })
+
+-- what a test finds: nothing, or a refusal
+abbrev pub Fault : Type 0
+Fault = Outcome ⊤
+
+pattern abbrev pub no_fault : Fault
+no_fault = Ok tt
+
+abbrev pub fault_at : (number place : ℕ) → Fault
+fault_at number place = refused number place
+
 -- the first test that is met
 unfoldable pub first_fault : List Fault → Fault
-first_fault [] = None
-first_fault (None ∷ faults) = first_fault faults
-first_fault (At number place ∷ faults) = At number place
+first_fault [] = no_fault
+first_fault (no_fault ∷ faults) = first_fault faults
+first_fault (Err r ∷ faults) = Err r
 
 -- a test whose place is 0
 unfoldable pub fault_if : (number : ℕ) (met : Bool) → Fault
-fault_if number met = if met then At number 0 else None
+fault_if number met = if met then fault_at number 0 else no_fault
 
 -- the first place where the test is met, of `count` from `place` on
 unfoldable pub fault_from : (number place count : ℕ) (met : ℕ → Bool) → Fault
-fault_from number place zero met = None
+fault_from number place zero met = no_fault
 fault_from number place (suc count) met =
     let rest = fault_from number (suc place) count met in
-    if met place then At number place else rest
+    if met place then fault_at number place else rest
 
 -- .. of `count` from 0 on
 unfoldable pub fault_where : (number count : ℕ) (met : ℕ → Bool) → Fault
 fault_where number count met = fault_from number 0 count met
 
--- what a call finds, or the number and the place of its refusal
-pub data Outcome (A : Type 0) : Type 0 where
-  accepted : A → Outcome A
-  refused : (number place : ℕ) → Outcome A
-
 -- the outcome, unless a test was met before it
 unfoldable pub unless_fault : {A : Type 0} → Fault → Outcome A → Outcome A
-unless_fault None outcome = outcome
-unless_fault (At number place) outcome = refused number place
+unless_fault no_fault outcome = outcome
+unless_fault (Err r) outcome = refused r.number r.place
 
 -- ---- 7.3, size: 5 and 6
 
@@ -194,12 +210,12 @@ rows_fault table generators rows coefficients =
 
 -- 21: the sums of step 2 over the brought rows, from the state on, up to `fuel` of them
 unfoldable pub sums_fault : (table : List Exchange) (fuel : ℕ) → State → Fault
-sums_fault table zero s = None
+sums_fault table zero s = no_fault
 sums_fault table (suc fuel) s =
     let rest = sums_fault table fuel (next (length table) s.rows s) in
-    if is_finished s then None
+    if is_finished s then no_fault
     else if is_zero (remainder table s.rows (sum_at table s)) then rest
-    else At 21 (s.sums + 1)
+    else fault_at 21 (s.sums + 1)
 
 -- 20 to 22
 unfoldable pub wholeness_fault : (table : List Exchange) (generators rows : List Vector) → Fault

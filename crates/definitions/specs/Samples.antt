@@ -1,7 +1,8 @@
 -- Specification 10: the proved sample orders, as lent calls with the areas that programs lend. Assumes nothing.
+use Rattle.definitions.specs.Refusals.{Outcome, accepted, refused}
 use Rattle.std.specs.Prelude.{◌≡◌, List, [], ◌∷◌, ◌++◌, ℕ, ◌*◌, ◌-◌, ℤ, pos, neg_ℤ, length, replicate}
 use Rattle.definitions.specs.declared.Answer.{Answer}
-use Rattle.definitions.specs.declared.Answer.TheVariants.{Moves, Split, Passed, Refused}
+use Rattle.definitions.specs.declared.Answer.TheVariants.{Moves, Split, Passed}
 use Rattle.definitions.specs.Limits.{group_limit, list_limit, lent_pieces, piece_width}
 use Rattle.definitions.specs.Lent.{Order, order_of}
 use Rattle.definitions.specs.Calls.{list_call, split_call, check_call}
@@ -14,7 +15,7 @@ pub data Call : Type 0 where
 
 -- the answer, and what the lent areas hold; an area that the call does not lend is empty
 pub record End : Type 0 where
-  pub answer : Answer
+  pub answer : Outcome Answer
   pub list : List ℤ
   pub group : List ℕ
   pub pieces : List ℤ
@@ -48,7 +49,7 @@ area : {A : Type 0} → A → ℕ → List A → List A
 area blank size numbers = numbers ++ replicate (size - length numbers) blank
 
 -- the end of a List with these answer, rows and exchanges
-moves : ℕ → Answer → List ℤ → List ℕ → End
+moves : ℕ → Outcome Answer → List ℤ → List ℕ → End
 unfolding area
 moves n answer rows table =
     record {
@@ -59,7 +60,7 @@ moves n answer rows table =
     }
 
 -- the end of a refused call that lends so many list rows and pieces
-turned_down : ℕ → Answer → ℕ → ℕ → End
+turned_down : ℕ → Outcome Answer → ℕ → ℕ → End
 unfolding area
 turned_down n answer list_rows pieces =
     record {
@@ -89,33 +90,33 @@ unfoldable pub samples : List Sample
 unfolding area moves turned_down p2 p3 p4 p15 p17
 samples =
     -- P1: n 1, no generators
-    record { call = list (order_of 1 [] [] []) list_limit; end = moves 1 (Moves 0 1 0 0) [] (1 ∷ []) }
+    record { call = list (order_of 1 [] [] []) list_limit; end = moves 1 (accepted (Moves 0 1 0 0)) [] (1 ∷ []) }
     -- P2: (2), (3)
-    ∷ record { call = list p2 list_limit; end = moves 1 (Moves 1 1 3 12) (+ 1 ∷ []) (1 ∷ []) }
+    ∷ record { call = list p2 list_limit; end = moves 1 (accepted (Moves 1 1 3 12)) (+ 1 ∷ []) (1 ∷ []) }
     -- P3: (1,−1,0), (0,1,−1)
     ∷ record {
       call = list (order_of 3 p3 [] []) list_limit;
-      end = moves 3 (Moves 3 1 3 12) (+ 1 ∷ + 0 ∷ − 1 ∷ + 1 ∷ − 1 ∷ + 0 ∷ + 0 ∷ + 1 ∷ − 1 ∷ []) (1 ∷ 2 ∷ 3 ∷ []);
+      end = moves 3 (accepted (Moves 3 1 3 12)) (+ 1 ∷ + 0 ∷ − 1 ∷ + 1 ∷ − 1 ∷ + 0 ∷ + 0 ∷ + 1 ∷ − 1 ∷ []) (1 ∷ 2 ∷ 3 ∷ []);
     }
     -- P4: the order of the sample file
     ∷ record {
       call = list p4 list_limit;
       end =
-          moves 3 (Moves 3 2 3 24) (+ 1 ∷ + 0 ∷ − 1 ∷ + 2 ∷ − 1 ∷ + 0 ∷ + 1 ∷ − 1 ∷ + 1 ∷ [])
+          moves 3 (accepted (Moves 3 2 3 24)) (+ 1 ∷ + 0 ∷ − 1 ∷ + 2 ∷ − 1 ∷ + 0 ∷ + 1 ∷ − 1 ∷ + 1 ∷ [])
           (1 ∷ 2 ∷ 3 ∷ 3 ∷ 2 ∷ 1 ∷ []);
     }
     -- P5: P4 with 2 list rows
-    ∷ record { call = list p4 2; end = turned_down 3 (Refused 13 6) 2 0 }
+    ∷ record { call = list p4 2; end = turned_down 3 (refused 13 6) 2 0 }
     -- P6: (4000,1), (1,4000)
     ∷ record {
       call = list (order_of 2 (+ 4_000 ∷ + 1 ∷ + 1 ∷ + 4_000 ∷ []) [] []) list_limit;
-      end = turned_down 2 (Refused 12 7) list_limit 0;
+      end = turned_down 2 (refused 12 7) list_limit 0;
     }
     -- P7: P2, split (5)
     ∷ record {
       call = split p2 (+ 5 ∷ []);
       end = record {
-        answer = Split 1 1 1 3 12;
+        answer = accepted (Split 1 1 1 3 12);
         list = area (pos 0) list_limit (+ 1 ∷ []);
         group = area 0 group_limit (1 ∷ []);
         pieces = area (pos 0) (piece_width * lent_pieces) (+ 0 ∷ + 0 ∷ + 1 ∷ + 5 ∷ []);
@@ -124,48 +125,48 @@ samples =
     -- P8: (2), split (1)
     ∷ record {
       call = split (order_of 1 (+ 2 ∷ []) [] []) (+ 1 ∷ []);
-      end = turned_down 1 (Refused 15 0) list_limit lent_pieces;
+      end = turned_down 1 (refused 15 0) list_limit lent_pieces;
     }
     -- P9: (1,0), exchange 2 1
     ∷ record {
       call = list (order_of 2 (+ 1 ∷ + 0 ∷ []) (2 ∷ 1 ∷ []) []) list_limit;
-      end = turned_down 2 (Refused 11 0) list_limit 0;
+      end = turned_down 2 (refused 11 0) list_limit 0;
     }
     -- P10: Check (1): rows (1), (2), coefficients 1, 2
     ∷ record {
       call = check (order_of 1 (+ 1 ∷ []) [] []) (+ 1 ∷ + 2 ∷ []) (+ 1 ∷ + 2 ∷ []);
-      end = turned_down 1 (Refused 22 1) 0 0;
+      end = turned_down 1 (refused 22 1) 0 0;
     }
     -- P11: Check (1): no rows
-    ∷ record { call = check (order_of 1 (+ 1 ∷ []) [] []) [] []; end = turned_down 1 (Refused 20 0) 0 0 }
+    ∷ record { call = check (order_of 1 (+ 1 ∷ []) [] []) [] []; end = turned_down 1 (refused 20 0) 0 0 }
     -- P12: Check P3's generators as rows, coefficients 1 0 and 0 1
     ∷ record {
       call = check (order_of 3 p3 [] []) p3 (+ 1 ∷ + 0 ∷ + 0 ∷ + 1 ∷ []);
-      end = turned_down 3 (Refused 21 3) 0 0;
+      end = turned_down 3 (refused 21 3) 0 0;
     }
     -- P15: (2,−2), (3,0)
     ∷ record {
       call = list p15 list_limit;
       end =
-          moves 2 (Moves 5 1 5 30) (+ 2 ∷ − 2 ∷ + 3 ∷ + 0 ∷ + 1 ∷ + 2 ∷ + 1 ∷ − 4 ∷ + 0 ∷ + 6 ∷ []) (1 ∷ 2 ∷ []);
+          moves 2 (accepted (Moves 5 1 5 30)) (+ 2 ∷ − 2 ∷ + 3 ∷ + 0 ∷ + 1 ∷ + 2 ∷ + 1 ∷ − 4 ∷ + 0 ∷ + 6 ∷ []) (1 ∷ 2 ∷ []);
     }
     -- P16: Check P15's rows by weight: (3,0), (1,2), (2,−2), (1,−4), (0,6), coefficients 0 1, −1 1, 1 0, 2 −1, −3 2
     ∷ record {
       call =
           check p15 (+ 3 ∷ + 0 ∷ + 1 ∷ + 2 ∷ + 2 ∷ − 2 ∷ + 1 ∷ − 4 ∷ + 0 ∷ + 6 ∷ [])
           (+ 0 ∷ + 1 ∷ − 1 ∷ + 1 ∷ + 1 ∷ + 0 ∷ + 2 ∷ − 1 ∷ − 3 ∷ + 2 ∷ []);
-      end = turned_down 2 (Refused 18 2) 0 0;
+      end = turned_down 2 (refused 18 2) 0 0;
     }
     -- P17: bare, (1,−1,0), (0,1,−1), exchange 2 3 1, coefficients of images −1 −1 and 1 0
     ∷ record {
       call = list p17 list_limit;
-      end = moves 3 (Moves 1 3 1 6) (+ 1 ∷ + 0 ∷ − 1 ∷ []) (1 ∷ 2 ∷ 3 ∷ 2 ∷ 3 ∷ 1 ∷ 3 ∷ 1 ∷ 2 ∷ []);
+      end = moves 3 (accepted (Moves 1 3 1 6)) (+ 1 ∷ + 0 ∷ − 1 ∷ []) (1 ∷ 2 ∷ 3 ∷ 2 ∷ 3 ∷ 1 ∷ 3 ∷ 1 ∷ 2 ∷ []);
     }
     -- P18: P17, split (2,−1,−1)
     ∷ record {
       call = split p17 (+ 2 ∷ − 1 ∷ − 1 ∷ []);
       end = record {
-        answer = Split 2 1 3 1 6;
+        answer = accepted (Split 2 1 3 1 6);
         list = area (pos 0) (3 * list_limit) (+ 1 ∷ + 0 ∷ − 1 ∷ []);
         group = area 0 (3 * group_limit) (1 ∷ 2 ∷ 3 ∷ 2 ∷ 3 ∷ 1 ∷ 3 ∷ 1 ∷ 2 ∷ []);
         pieces =
@@ -176,7 +177,7 @@ samples =
     ∷ record {
       call = check p17 (+ 1 ∷ + 0 ∷ − 1 ∷ []) (+ 1 ∷ + 1 ∷ []);
       end = record {
-        answer = Passed 1 6;
+        answer = accepted (Passed 1 6);
         list = [];
         group = area 0 (3 * group_limit) (1 ∷ 2 ∷ 3 ∷ 2 ∷ 3 ∷ 1 ∷ 3 ∷ 1 ∷ 2 ∷ []);
         pieces = [];
@@ -185,19 +186,19 @@ samples =
     -- P20: P17 with the images by the inverse exchange: 0 1 and −1 −1
     ∷ record {
       call = list (order_of 3 p3 (2 ∷ 3 ∷ 1 ∷ []) (+ 0 ∷ + 1 ∷ − 1 ∷ − 1 ∷ [])) list_limit;
-      end = turned_down 3 (Refused 23 0) list_limit 0;
+      end = turned_down 3 (refused 23 0) list_limit 0;
     }
     -- P21: P17 with a second exchange 3 1 2, and the last image wrong: 0 1 and −1 0
     ∷ record {
       call =
           list (order_of 3 p3 (2 ∷ 3 ∷ 1 ∷ 3 ∷ 1 ∷ 2 ∷ [])
           (− 1 ∷ − 1 ∷ + 1 ∷ + 0 ∷ + 0 ∷ + 1 ∷ − 1 ∷ + 0 ∷ [])) list_limit;
-      end = turned_down 3 (Refused 23 3) list_limit 0;
+      end = turned_down 3 (refused 23 3) list_limit 0;
     }
     -- P22: P17 with one coefficient too few
     ∷ record {
       call = list (order_of 3 p3 (2 ∷ 3 ∷ 1 ∷ []) (− 1 ∷ − 1 ∷ + 1 ∷ [])) list_limit;
-      end = turned_down 3 (Refused 6 0) list_limit 0;
+      end = turned_down 3 (refused 6 0) list_limit 0;
     }
     ∷ []
 

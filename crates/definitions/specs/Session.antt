@@ -1,10 +1,10 @@
 -- Specification 3.8: a session, two orders on one group table. For each input both answers, and what the list area and
 -- the group area hold at the end. An area lent for writing is given by its size. Assumes nothing.
+use Rattle.std.specs.declared.result.Result.TheVariants.{Err}
+use Rattle.definitions.specs.Refusals.{Fault, no_fault, fault_at}
 use Rattle.std.specs.Prelude.{Bool, true, false, ◌&&◌, not, List, [], ◌∷◌, ◌++◌, ℕ, suc, ◌+◌, ◌*◌, ◌/◌, eqb, ℤ, pos, length, take, drop, if◌then◌else◌}
 use Rattle.definitions.specs.declared.Ending.{Ending}
-use Rattle.definitions.specs.declared.Ending.TheVariants.{Moves, Unfinished, Refused}
-use Rattle.definitions.specs.declared.Fault.{Fault}
-use Rattle.definitions.specs.declared.Fault.TheVariants.{None, At}
+use Rattle.definitions.specs.declared.Ending.TheVariants.{Moves, Unfinished}
 use Rattle.definitions.specs.Limits.{session_rows}
 use Rattle.definitions.specs.Lists.{concat}
 use Rattle.definitions.specs.Group.{Exchange}
@@ -31,12 +31,12 @@ shared_fault order other list_size =
 -- 9: the exchange that has the first number, of those from `place` on, in which the exchanges of two orders differ;
 -- where those of one end, the first that it lacks
 unfoldable pub difference_from : (n place : ℕ) (sent other : List ℕ) → Fault
-difference_from n place [] [] = None
-difference_from n place [] (y ∷ other) = At 9 (place / n)
-difference_from n place (x ∷ sent) [] = At 9 (place / n)
+difference_from n place [] [] = no_fault
+difference_from n place [] (y ∷ other) = fault_at 9 (place / n)
+difference_from n place (x ∷ sent) [] = fault_at 9 (place / n)
 difference_from n place (x ∷ sent) (y ∷ other) =
     let rest = difference_from n (suc place) sent other in
-    if eqb x y then rest else At 9 (place / n)
+    if eqb x y then rest else fault_at 9 (place / n)
 
 unfoldable pub difference_fault : (order other : Order) → Fault
 difference_fault order other = difference_from order.n 0 order.exchanges other.exchanges
@@ -60,8 +60,8 @@ session_fault order other list_size group_size =
 
 -- an order that meets a test is turned down before its first step
 unfoldable pub unless_met : Fault → Completion → Completion
-unless_met None c = c
-unless_met (At number place) c = stopped number place
+unless_met no_fault c = c
+unless_met (Err r) c = stopped r.number r.place
 
 -- where one order starts
 unfoldable pub started : (table : List Exchange) (fault : Fault) → Order → Completion
@@ -97,25 +97,25 @@ result_of table (running s) = if is_finished s then ended (listing_of table (run
 
 unfoldable pub is_refused : Result → Bool
 is_refused (ended (accepted found)) = false
-is_refused (ended (refused number place)) = true
+is_refused (ended (Err r)) = true
 is_refused (unfinished sums) = false
 
-unfoldable pub ending_of : Result → Ending
+unfoldable pub ending_of : Result → Outcome Ending
 ending_of (ended (accepted found)) =
-    Moves (length found.rows) (length found.table) found.stored found.sums
-ending_of (ended (refused number place)) = Refused number place
-ending_of (unfinished sums) = Unfinished sums
+    accepted (Moves (length found.rows) (length found.table) found.stored found.sums)
+ending_of (ended (Err r)) = refused r.number r.place
+ending_of (unfinished sums) = accepted (Unfinished sums)
 
 -- what an order's half of the list area holds: the rows of its list, and zeros behind; zeros alone without a list
 unfoldable pub half_of : (n : ℕ) → Result → List ℤ
 half_of n (ended (accepted found)) = filled (pos 0) (half n) (numbers_of n found.rows)
-half_of n (ended (refused number place)) = filled (pos 0) (half n) []
+half_of n (ended (Err r)) = filled (pos 0) (half n) []
 half_of n (unfinished sums) = filled (pos 0) (half n) []
 
 -- the end of a session: its answers, and its areas
 pub record SessionEnd : Type 0 where
-  pub first : Ending
-  pub second : Ending
+  pub first : Outcome Ending
+  pub second : Outcome Ending
   pub list : List ℤ
   pub group : List ℕ
 
@@ -145,7 +145,7 @@ session_call first second list_size group_size steps =
 
 -- its answer, and its half of the list area
 pub record Part : Type 0 where
-  pub ending : Ending
+  pub ending : Outcome Ending
   pub rows : List ℤ
 
 -- .. order 0

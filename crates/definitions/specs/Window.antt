@@ -1,12 +1,12 @@
 -- Specification 3.9: a window over a run of draws. For each input the answer, and what every area lent for writing
 -- holds at the end. Such an area is given by its size. Assumes nothing.
+use Rattle.definitions.specs.Refusals.{refused}
+use Rattle.std.specs.declared.result.Result.TheVariants.{Err}
+use Rattle.definitions.specs.Refusals.{Fault, no_fault}
 use Rattle.std.specs.Prelude.{Bool, ◌&&◌, not, List, [], ◌∷◌, ◌++◌, map, ℕ, suc, ◌+◌, ◌-◌, ◌/◌, leb, ltb, eqb, ℤ, pos, nat_abs, length, get_or, take, drop, if◌then◌else◌}
 use Rattle.std.specs.Int.Signed.{non_neg, lt_z}
 use Rattle.definitions.specs.declared.Draw.{Draw}
-use Rattle.definitions.specs.declared.Fault.{Fault}
-use Rattle.definitions.specs.declared.Fault.TheVariants.{None, At}
 use Rattle.definitions.specs.declared.Run.{Run}
-use Rattle.definitions.specs.declared.Run.TheVariants.{Answered, Refused}
 use Rattle.definitions.specs.declared.View.{View}
 use Rattle.definitions.specs.Limits.{contingency_limit, figures_width, record_width, window_limit}
 use Rattle.definitions.specs.Lists.{any, concat, every}
@@ -14,7 +14,7 @@ use Rattle.definitions.specs.Vector.{Vector, padded, plus}
 use Rattle.definitions.specs.Group.{Exchange, exchanged}
 use Rattle.definitions.specs.Orbit.{signed}
 use Rattle.definitions.specs.Lent.{Order, filled, numbers_of, rows_of, whole_rows}
-use Rattle.definitions.specs.Refusals.{Outcome, accepted, refused, first_fault, fault_if, fault_where}
+use Rattle.definitions.specs.Refusals.{Outcome, accepted, first_fault, fault_if, fault_where}
 use Rattle.definitions.specs.Calls.{Listing, listing}
 
 -- what a sampler sends besides an order: a contingency table, the records of a window, a cell, and the records of a run
@@ -154,7 +154,7 @@ chain_fault n chain answers_size =
 
 -- the end of the call: its answer, and its areas
 pub record WindowEnd : Type 0 where
-  pub answer : Run
+  pub answer : Outcome Run
   pub list : List ℤ
   pub group : List ℕ
   pub answers : List ℤ
@@ -163,7 +163,7 @@ pub record WindowEnd : Type 0 where
 unfoldable pub window_refused : Room → (number place : ℕ) (rows : List (List ℤ)) → WindowEnd
 window_refused room number place rows =
     record {
-      answer = Refused number place;
+      answer = refused number place;
       list = filled (pos 0) room.list [];
       group = filled 0 room.group [];
       answers = filled (pos 0) room.answers (concat rows);
@@ -173,7 +173,7 @@ window_refused room number place rows =
 unfoldable pub window_answered : (n : ℕ) → Room → Listing → (rows : List (List ℤ)) → WindowEnd
 window_answered n room found rows =
     record {
-      answer = Answered (length rows) (length found.rows) (length found.table) found.stored found.sums;
+      answer = accepted (record { records = (length rows); rows = (length found.rows); members = (length found.table); stored = found.stored; sums = found.sums });
       list = filled (pos 0) room.list (numbers_of n found.rows);
       group = filled 0 room.group (concat found.table);
       answers = filled (pos 0) room.answers (concat rows);
@@ -187,8 +187,8 @@ run_end n room found count rows =
 
 -- the run, once 6 and 14 are tested
 unfoldable pub drawn_end : (n : ℕ) → Chain → Room → Listing → Fault → WindowEnd
-drawn_end n chain room found (At number place) = window_refused room number place []
-drawn_end n chain room found None =
+drawn_end n chain room found (Err r) = window_refused room r.number r.place []
+drawn_end n chain room found no_fault =
     let draws = draws_of chain.records in
     let view : View = record { n = n; width = chain.width; cell = chain.cell } in
     let reached = visits found.table found.rows (padded chain.start) draws in
@@ -196,7 +196,7 @@ drawn_end n chain room found None =
 
 -- the tests and the run, once the List has ended
 unfoldable pub window_of : (n : ℕ) → Chain → Room → Outcome Listing → WindowEnd
-window_of n chain room (refused number place) = window_refused room number place []
+window_of n chain room (Err r) = window_refused room r.number r.place []
 window_of n chain room (accepted found) = drawn_end n chain room found (chain_fault n chain room.answers)
 
 unfoldable pub window_call : Order → Chain → Room → WindowEnd

@@ -1,7 +1,7 @@
 -- Specification 10: the proved sample runs. Assumes nothing.
+use Rattle.definitions.specs.Refusals.{Outcome, accepted, refused}
 use Rattle.std.specs.Prelude.{◌≡◌, List, [], ◌∷◌, ◌++◌, ℕ, ◌-◌, ℤ, pos, neg_ℤ, length, replicate}
 use Rattle.definitions.specs.declared.Run.{Run}
-use Rattle.definitions.specs.declared.Run.TheVariants.{Answered, Refused}
 use Rattle.definitions.specs.Lent.{Order, order_of}
 use Rattle.definitions.specs.Window.{Chain, Room, WindowEnd, window_call}
 
@@ -31,7 +31,7 @@ room_of list group answers = record { list = list; group = group; answers = answ
 
 -- the line of an order: the answer, and in its areas the numbers of the list, the table and the answer rows, with zeros
 -- behind them
-line : Order → Chain → Room → Run → (list : List ℤ) (table : List ℕ) (answers : List ℤ) → WindowSample
+line : Order → Chain → Room → Outcome Run → (list : List ℤ) (table : List ℕ) (answers : List ℤ) → WindowSample
 line order chain room answer list table answers =
     record {
       order = order;
@@ -60,7 +60,7 @@ window_samples =
     (chain_of (+ 5 ∷ + 5 ∷ + 5 ∷ []) 2 1
     (+ 0 ∷ + 0 ∷ + 1 ∷ + 0 ∷ + 0 ∷ + 1 ∷ + 1 ∷ + 0 ∷ − 1 ∷ + 2 ∷ + 0 ∷ + 1 ∷ []))
     (room_of 15 6 30)
-    (Answered 4 3 1 3 12)
+    (accepted (record { records = 4; rows = 3; members = 1; stored = 3; sums = 12 }))
     (+ 1 ∷ + 0 ∷ − 1 ∷ + 1 ∷ − 1 ∷ + 0 ∷ + 0 ∷ + 1 ∷ − 1 ∷ [])
     (1 ∷ 2 ∷ 3 ∷ [])
     (+ 6 ∷ + 5 ∷ + 4 ∷ + 6 ∷ + 6 ∷ + 1
@@ -73,7 +73,7 @@ window_samples =
     (chain_of (+ 0 ∷ + 3 ∷ []) 256 2
     (+ 0 ∷ + 0 ∷ + 1 ∷ + 0 ∷ + 1 ∷ − 1 ∷ + 0 ∷ + 0 ∷ + 1 ∷ + 0 ∷ + 0 ∷ + 1 ∷ + 0 ∷ + 1 ∷ + 1 ∷ []))
     (room_of 8 4 25)
-    (Refused 25 3)
+    (refused 25 3)
     []
     []
     (+ 1 ∷ + 2 ∷ + 2 ∷ + 2 ∷ + 1
@@ -84,31 +84,31 @@ window_samples =
     ∷ line (pair [])
     (chain_of (+ 999_999 ∷ + 2 ∷ []) 1 1 (+ 0 ∷ + 0 ∷ + 1 ∷ + 0 ∷ + 0 ∷ + 1 ∷ []))
     (room_of 2 2 10)
-    (Refused 25 1)
+    (refused 25 1)
     []
     []
     (+ 1_000_000 ∷ + 1 ∷ + 1_000_000 ∷ + 1_000_000 ∷ + 1 ∷ [])
     -- P49: a sign that is none
     ∷ line (pair []) (chain_of (+ 1 ∷ + 1 ∷ []) 1 1 (+ 0 ∷ + 0 ∷ + 2 ∷ [])) (room_of 2 2 5)
-    (Refused 25 0) [] [] []
+    (refused 25 0) [] [] []
     -- P50: no records
     ∷ line (pair []) (chain_of (+ 1_000_000 ∷ + 0 ∷ []) 256 2 []) (room_of 2 2 5)
-    (Answered 0 1 1 1 2)
+    (accepted (record { records = 0; rows = 1; members = 1; stored = 1; sums = 2 }))
     (+ 1 ∷ − 1 ∷ [])
     (1 ∷ 2 ∷ [])
     []
     -- P51: a starting entry below 0
     ∷ line (pair []) (chain_of (+ 1 ∷ − 1 ∷ []) 1 1 (+ 0 ∷ + 0 ∷ + 2 ∷ [])) (room_of 2 2 5)
-    (Refused 14 1) [] [] []
+    (refused 14 1) [] [] []
     -- P52: a starting entry below 0, and a window of 257 records
     ∷ line (pair []) (chain_of (+ 1 ∷ − 1 ∷ []) 257 1 []) (room_of 2 2 5)
-    (Refused 6 0) [] [] []
+    (refused 6 0) [] [] []
     -- P53: more records than answer rows
     ∷ line (pair []) (chain_of (+ 1 ∷ + 1 ∷ []) 1 1 (+ 0 ∷ + 0 ∷ + 1 ∷ + 0 ∷ + 0 ∷ − 1 ∷ [])) (room_of 2 2 5)
-    (Refused 6 0) [] [] []
+    (refused 6 0) [] [] []
     -- P54: no room for a row in the list area, and the cell 0
     ∷ line (pair []) (chain_of (+ 1 ∷ + 1 ∷ []) 1 0 []) (room_of 0 2 5)
-    (Refused 13 0) [] [] []
+    (refused 13 0) [] [] []
     ∷ []
 
 -- each line's call ends as the line says

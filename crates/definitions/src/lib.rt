@@ -1,7 +1,15 @@
-// The answers of the three services. What each call answers, for every input, is defined in specs/.
+// What the calls answer, and refusals. What each call answers, for every input, is defined in specs/.
 #![tactic(auto)]
 
-// What a call answers (Specification 1.1). Refused: the number and the place of the table of refusals.
+// A refusal: its number in the table of refusals, and its place (Specification 7). The number is no enum: texts, C results
+// and promises name a refusal by it (`refused_text`, `refusal_of`, `Reported`), and an enum would need that table again.
+#[derive(Clone, Copy)]
+pub struct Refusal {
+    pub number: u64,
+    pub place: u64,
+}
+
+// What a call that is not refused answers (Specification 1.1).
 #[derive(Clone, Copy)]
 pub enum Answer {
     Moves {
@@ -21,13 +29,9 @@ pub enum Answer {
         rows: u64,
         sums: u64,
     },
-    Refused {
-        number: u64,
-        place: u64,
-    },
 }
 
-// How an order of a session ends (Specification 3.8): as a List does, or with sums left to try.
+// How an order of a session that is not refused ends (Specification 3.8): as a List does, or with sums left to try.
 #[derive(Clone, Copy)]
 pub enum Ending {
     Moves {
@@ -39,33 +43,23 @@ pub enum Ending {
     Unfinished {
         sums: u64,
     },
-    Refused {
-        number: u64,
-        place: u64,
-    },
 }
 
 // What a session answers: how order 0 and how order 1 ends.
 #[derive(Clone, Copy)]
 pub struct Session {
-    pub first: Ending,
-    pub second: Ending,
+    pub first: Result<Ending, Refusal>,
+    pub second: Result<Ending, Refusal>,
 }
 
-// What a run of draws answers (Specification 3.9): the number of its records and the counts of its List, or a refusal.
+// What a run of draws answers (Specification 3.9): the number of its records and the counts of its List.
 #[derive(Clone, Copy)]
-pub enum Run {
-    Answered {
-        records: u64,
-        rows: u64,
-        members: u64,
-        stored: u64,
-        sums: u64,
-    },
-    Refused {
-        number: u64,
-        place: u64,
-    },
+pub struct Run {
+    pub records: u64,
+    pub rows: u64,
+    pub members: u64,
+    pub stored: u64,
+    pub sums: u64,
 }
 
 // A record of a run, as it is sent: the row, the position and the sign of a listed image.
@@ -85,7 +79,7 @@ pub struct View {
 }
 
 // What a search for the best plan answers (Specification 3.10): that its plan is a cheapest one, or that the budget is
-// spent, with the distance bound; the steps that it took, and the counts of its List; or a refusal.
+// spent, with the distance bound; the steps that it took, and the counts of its List.
 #[derive(Clone, Copy)]
 pub enum Planned {
     Cheapest {
@@ -103,10 +97,6 @@ pub enum Planned {
         stored: u64,
         sums: u64,
     },
-    Refused {
-        number: u64,
-        place: u64,
-    },
 }
 
 // The upper bounds and the costs of the cells of a plan.
@@ -114,13 +104,6 @@ pub enum Planned {
 pub struct Terms {
     pub upper: [i32; limits::CELLS],
     pub costs: [i32; limits::CELLS],
-}
-
-// What a test finds: nothing, or the number and the place of a refusal.
-#[derive(Clone, Copy)]
-pub enum Fault {
-    None,
-    At { number: u64, place: u64 },
 }
 
 // The limits.

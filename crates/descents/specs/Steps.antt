@@ -4,7 +4,7 @@ use Rattle.definitions.specs.declared.Terms.{Terms}
 use Rattle.definitions.specs.Limits.{bound_limit, cells, cost_limit}
 use Rattle.definitions.specs.Vector.{Vector, negative, within}
 use Rattle.definitions.specs.Orbit.{orbits}
-use Rattle.definitions.specs.Plan.{Stage, best_gain, best_of, best_step, cost, descent, feasible, gain}
+use Rattle.definitions.specs.Plan.{best_gain, best_of, best_step, cost, descent, feasible, gain}
 use Rattle.vectors.specs.Bounds.{headroom}
 use Rattle.reduction.specs.declared.Extent.{Extent}
 use Rattle.reduction.specs.declared.Slot.{Slot}

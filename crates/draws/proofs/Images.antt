@@ -1,5 +1,5 @@
 -- The image that a record names, by what is known of the list and the table. Assumes nothing.
-use mathlib.Core.Path.{◌≡◌, sym, ◌∙◌, ap, subst}
+use mathlib.Core.Path.{◌≡◌, ◌∙◌, ap, subst}
 use mathlib.Core.Bool.{Bool, true, false, ◌&&◌}
 use mathlib.Core.List.{List, [], map}
 use Prim.Native.Nat.{ℕ, ◌+◌, ◌-◌, ◌*◌, ◌≤◌, ◌<◌}
@@ -11,7 +11,7 @@ use lib.Seq.{drop_at}
 use lib.Signed.{non_neg}
 use Rattle.definitions.specs.declared.Draw.{Draw}
 use Rattle.definitions.specs.Limits.{cells, contingency_limit}
-use Rattle.definitions.specs.Vector.{Vector, padded, within}
+use Rattle.definitions.specs.Vector.{Vector, negative, padded, within}
 use Rattle.definitions.specs.Group.{Exchange, exchanged, is_exchange}
 use Rattle.definitions.specs.Orbit.{signed}
 use Rattle.definitions.specs.Window.{drawn_image, is_contingency, is_entry, is_index, names_image}
@@ -26,6 +26,7 @@ use Rattle.theory.proofs.Rows.{row_at, rows-count, short-negative, short-rows}
 use Rattle.vectors.specs.Bounds.{headroom}
 use Rattle.vectors.proofs.Kit.{length-row}
 use Rattle.reduction.specs.declared.Extent.{Extent}
+use Rattle.reduction.specs.Areas.{image_of}
 use Rattle.reduction.proofs.Lent.{row_within, sequences-count}
 use Rattle.draws.specs.Draws.{Filled, Listed, names_in, rows_in, table_in}
 use Rattle.draws.proofs.Entries.{entry-bound, index_below}
@@ -71,13 +72,6 @@ abbrev pub plain_image : Extent → (list : List ℤ) (group : List ℕ) → Dra
 plain_image extent list group draw =
     exchanged (get_or (table_in extent group) (nat_abs draw.position) []) (get_or (rows_in extent list) (nat_abs draw.row) [])
 
--- with its sign
-pub image-signed : (extent : Extent) (list : List ℤ) (group : List ℕ) (draw : Draw) {positive : Bool}
-    → non_neg draw.sign ≡ positive
-    → signed positive (plain_image extent list group draw) ≡ drawn_image (table_in extent group) (rows_in extent list) draw
-unfolding drawn_image
-image-signed extent list group draw e = ap (λ (b : Bool). signed b (plain_image extent list group draw)) (sym e)
-
 module _ {extent : Extent} {list : List ℤ} {group : List ℕ} (listed : Listed extent list group) (draw : Draw) (named : names_in extent draw ≡ true) where
   abbrev indexed : Bool
   indexed = is_index extent.k draw.row && is_index extent.shape.g draw.position
@@ -102,18 +96,35 @@ module _ {extent : Extent} {list : List ℤ} {group : List ℕ} (listed : Listed
   row_inside = omega (arith, row-end (nat_abs draw.row) extent.k extent.shape.n row_below, listed.area.holds)
 
   -- the row as code loads it
-  pub row_loaded : padded (take extent.shape.n (drop (nat_abs draw.row * extent.shape.n) list))
+  row_loaded : padded (take extent.shape.n (drop (nat_abs draw.row * extent.shape.n) list))
       ≡ get_or (rows_in extent list) (nat_abs draw.row) []
   row_loaded = row_at extent.shape.n extent.k (nat_abs draw.row) list row_below
 
   -- it has headroom, and so has its image
-  pub plain-within : within headroom (plain_image extent list group draw) ≡ true
+  plain-within : within headroom (plain_image extent list group draw) ≡ true
   plain-within =
       let row =
       row_within headroom list (nat_abs draw.row * extent.shape.n) extent.shape.n listed.area.limited in
       each_within headroom
       (within-exchanged (get_or (table_in extent group) (nat_abs draw.position) [])
       (within-each headroom (get_or (rows_in extent list) (nat_abs draw.row) []) (rw row_loaded at row)))
+
+  -- the image as code makes it, before its sign
+  module _ {row position : ℕ} {v image : Vector} (r : row ≡ nat_abs draw.row) (p : position ≡ nat_abs draw.position)
+      (l : v ≡ padded (take extent.shape.n (drop (row * extent.shape.n) list))) (m : image ≡ image_of (table_in extent group) position v) where
+    plain-is : image ≡ plain_image extent list group draw
+    plain-is = m ∙ rw (p, l, r, row_loaded)
+
+    pub made-within : within headroom image ≡ true
+    made-within = rw plain-is plain-within
+
+    pub made-positive : non_neg draw.sign ≡ true → image ≡ drawn_image (table_in extent group) (rows_in extent list) draw
+    unfolding drawn_image signed
+    made-positive e = plain-is ∙ rw e
+
+    pub made-negative : non_neg draw.sign ≡ false → negative image ≡ drawn_image (table_in extent group) (rows_in extent list) draw
+    unfolding drawn_image signed
+    made-negative e = ap negative plain-is ∙ rw e
 
   -- the image that is drawn has headroom
   pub image-within : within headroom (drawn_image (table_in extent group) (rows_in extent list) draw) ≡ true

@@ -2,7 +2,5 @@
 pub mod Entries
 pub mod Records
 pub mod Images
-pub mod Drawing
-pub mod Writing
 pub mod Answering
 pub mod Running

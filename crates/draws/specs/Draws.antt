@@ -1,8 +1,8 @@
 -- The records of a run on lent areas, and what is tested before it, by the definitions (Specification 3.9). Assumes
 -- nothing.
-use Rattle.std.specs.Prelude.{◌≡◌, Bool, true, ◌&&◌, not, List, ℕ, ◌≤◌, eqb, ℤ, pos, nat_abs, length, get_or}
+use Rattle.definitions.specs.Refusals.{Fault}
+use Rattle.std.specs.Prelude.{◌≡◌, Bool, ◌&&◌, not, List, ℕ, ◌≤◌, eqb, ℤ, pos, nat_abs, length, get_or, Option, Some, None, if◌then◌else◌}
 use Rattle.definitions.specs.declared.Draw.{Draw}
-use Rattle.definitions.specs.declared.Fault.{Fault}
 use Rattle.definitions.specs.declared.View.{View}
 use Rattle.definitions.specs.Limits.{cells, list_limit}
 use Rattle.definitions.specs.Vector.{Vector, plus}
@@ -13,7 +13,6 @@ use Rattle.theory.proofs.Rows.{Short}
 use Rattle.vectors.specs.Areas.{Lent}
 use Rattle.reduction.specs.declared.Extent.{Extent}
 use Rattle.reduction.specs.Areas.{Area, Table, rows_at, sequences_in}
-use Rattle.draws.specs.declared.Drawn.{Drawn}
 
 -- what a sampler sends, in lent areas
 abbrev pub chain_in : View → (start records : Lent ℤ) → Chain
@@ -43,11 +42,11 @@ abbrev pub names_in : Extent → Draw → Bool
 names_in extent draw =
     is_index extent.k draw.row && is_index extent.shape.g draw.position && eqb (nat_abs draw.sign) 1
 
--- a record was drawn, or refused
-pub record Draws (table : List Exchange) (rows : List Vector) (current : Vector) (draw : Draw) (r : Drawn)
-    : Type 0 where
-  pub told : r.fits ≡ is_drawable table rows current draw
-  pub reached : r.fits ≡ true → r.table ≡ plus current (drawn_image table rows draw)
+-- the contingency table that a record reaches, unless it is refused
+abbrev pub drawn : (table : List Exchange) (rows : List Vector) (current : Vector) → Draw → Option Vector
+drawn table rows current draw =
+    let next = plus current (drawn_image table rows draw) in
+    if is_drawable table rows current draw then Some next else None
 
 -- a vector of n cells, and zeros behind them
 pub record Filled (n : ℕ) (v : Vector) : Type 0 where

@@ -7,25 +7,18 @@ ghost use Rattle.definitions.specs.Limits.{cells, record_width, window_limit};
 ghost use Rattle.definitions.specs.Window.{answer_width, chain_fault, chain_fits, draw_of, drawn_image, draws_of};
 ghost use Rattle.definitions.specs.Window.{is_contingency, is_entry, is_index};
 ghost use Rattle.figures.specs.Window.{Named, Rows, Viewable};
-ghost use Rattle.draws.specs.Draws.{Draws, Filled, Listed};
-ghost use Rattle.draws.specs.Draws.{chain_in, names_in, rows_in, start_fault, table_in};
+ghost use Rattle.draws.specs.Draws.{Filled, Listed};
+ghost use Rattle.draws.specs.Draws.{chain_in, drawn, names_in, rows_in, start_fault, table_in};
 ghost use Rattle.draws.specs.Run.{Answers, RanIn, Shown};
 
 use definitions::limits::{
     CELLS, CONTINGENCY_LIMIT, FIGURES_WIDTH, LIST_LIMIT, RECORD_WIDTH, WINDOW_LIMIT,
 };
-use definitions::{Draw, Fault, View};
+use definitions::{Draw, Refusal, View};
 use figures::{Extremes, count_rows, next_extremes};
 use reduction::{Extent, image_at};
-use refusals::whole_rows;
+use refusals::{fault_if, fault_where, whole_rows};
 use vectors::{load, magnitude, negative, plus, store};
-
-// Whether a record was drawn, and the contingency table that it reached.
-#[derive(Clone, Copy)]
-struct Drawn {
-    fits: bool,
-    table: [i32; CELLS],
-}
 
 // The figures of a window.
 #[derive(Clone, Copy)]
@@ -47,30 +40,14 @@ fn is_entry(x: i32) -> bool
 fn is_contingency(v: [i32; CELLS]) -> bool
     ensures told { result ≡ is_contingency v }
 {
-    let mut fits = true;
-    let mut cell = 0;
-    while cell < CELLS {
-        fits = fits & is_entry(v[cell]);
-        cell += 1;
-    }
-    fits
+    v.iter().all(|x| is_entry(*x))
 }
 
 // Refusal 14: the first starting entry that is out of range (Specification 7.2).
-fn start_fault(start: &[i32]) -> Fault
+fn start_fault(start: &[i32]) -> Result<(), Refusal>
     ensures found { result ≡ start_fault start.now }
 {
-    let mut cell = 0;
-    while cell < start.len() {
-        if !is_entry(start[cell]) {
-            return Fault::At {
-                number: 14,
-                place: cell as u64,
-            };
-        }
-        cell += 1;
-    }
-    Fault::None
+    fault_where(14, start.len(), |cell| !is_entry(start[cell]))
 }
 
 // Whether the window, the chosen cell and the sizes are as they should be (Specification 7.3).
@@ -89,16 +66,16 @@ fn chain_fits(start: &[i32], view: View, records: &[i32], answers: usize) -> boo
 }
 
 // Refusals 6 and 14 of a run (Specification 7.2 and 7.3).
-pub fn chain_fault(start: &[i32], view: View, records: &[i32], answers: usize) -> Fault
+pub fn chain_fault(
+    start: &[i32],
+    view: View,
+    records: &[i32],
+    answers: usize,
+) -> Result<(), Refusal>
     requires narrow { view.n ≤ cells }
     ensures found { result ≡ chain_fault view.n (chain_in view start records) answers }
 {
-    if !chain_fits(start, view, records, answers) {
-        return Fault::At {
-            number: 6,
-            place: 0,
-        };
-    }
+    fault_if(6, !chain_fits(start, view, records, answers))?;
     start_fault(start)
 }
 
@@ -151,21 +128,22 @@ fn drawn_image(draw: Draw, list: &[i32], group: &[u8], extent: Extent) -> [i32; 
 }
 
 // A record is added to a contingency table, if it names an image and the entries stay within their limits.
-fn add_draw(current: [i32; CELLS], draw: Draw, list: &[i32], group: &[u8], extent: Extent) -> Drawn
+fn add_draw(
+    current: [i32; CELLS],
+    draw: Draw,
+    list: &[i32],
+    group: &[u8],
+    extent: Extent,
+) -> Option<[i32; CELLS]>
     requires listed { Listed extent list.now group.now }
     requires entries { is_contingency current ≡ true }
-    ensures drawn { Draws (table_in extent group.now) (rows_in extent list.now) current draw result }
+    ensures drawn { result ≡ drawn (table_in extent group.now) (rows_in extent list.now) current draw }
 {
     if !names(draw, extent) {
-        return Drawn {
-            fits: false,
-            table: current,
-        };
+        return None;
     }
-    let image = drawn_image(draw, list, group, extent);
-    let table = plus(current, image);
-    let fits = is_contingency(table);
-    Drawn { fits, table }
+    let table = plus(current, drawn_image(draw, list, group, extent));
+    is_contingency(table).then_some(table)
 }
 
 // ---- its answer row
@@ -188,7 +166,7 @@ fn write_row(
 {
     let rows = different as i32;
     let behind = at + n;
-    store(&mut *answers, at, n, table);
+    store(answers, at, n, table);
     answers[behind] = smallest;
     answers[behind + 1] = largest;
     answers[behind + 2] = rows;
@@ -213,10 +191,10 @@ fn answer(
     ensures answers { Answers view records.now answers.old answers.new i table }
 {
     let value = table[view.cell - 1];
-    let extremes = next_extremes(&*answers, view, i, before.extremes, value);
-    let different = count_rows(records, &mut *uses, view.width, i, before.different);
+    let extremes = next_extremes(answers, view, i, before.extremes, value);
+    let different = count_rows(records, uses, view.width, i, before.different);
     write_row(
-        &mut *answers,
+        answers,
         i * (view.n + FIGURES_WIDTH),
         view.n,
         table,
@@ -259,16 +237,13 @@ pub fn draw_records(
     };
     let mut table = start;
     let count = records.len() / RECORD_WIDTH;
-    let mut i = 0;
-    while i < count {
+    for i in 0..count {
         let draw = draw_at(records, i);
-        let next = add_draw(table, draw, list, group, extent);
-        if !next.fits {
+        let Some(next) = add_draw(table, draw, list, group, extent) else {
             return i;
-        }
-        table = next.table;
-        figures = answer(figures, table, i, records, view, &mut uses, &mut *answers);
-        i += 1;
+        };
+        table = next;
+        figures = answer(figures, table, i, records, view, &mut uses, answers);
     }
     count
 }

@@ -1,4 +1,7 @@
 -- An answer that is not 7, 12 or 17 is the one that is given under any higher entry limit. Assumes nothing.
+use Rattle.orders.specs.declared.Counts.{Counts}
+use Rattle.std.specs.declared.result.Result.TheVariants.{Err}
+use Rattle.definitions.specs.Refusals.{Fault, no_fault}
 use mathlib.Core.Path.{◌≡◌, refl, sym, ap, ◌∙◌}
 use mathlib.Core.Logic.{inl, inr}
 use mathlib.Core.Bool.{true, false}
@@ -7,8 +10,6 @@ use Prim.Native.Nat.{ℕ, ◌≤◌, ◌/◌}
 use lib.IntN.{ℤ}
 use lib.ListN.{length}
 use Rattle.definitions.specs.declared.Answer.{Answer}
-use Rattle.definitions.specs.declared.Fault.{Fault}
-use Rattle.definitions.specs.declared.Fault.TheVariants.{None, At}
 use Rattle.definitions.specs.Limits.{entry_limit}
 use Rattle.definitions.specs.Lent.{Order, table_of}
 use Rattle.definitions.specs.Refusals.{Outcome, accepted, refused}
@@ -17,8 +18,6 @@ use Rattle.definitions.specs.Calls.{split_call, split_end}
 use Rattle.orders.specs.declared.Service.{Service}
 use Rattle.orders.specs.declared.Service.TheVariants.{List as ListService, Split as SplitService}
 use Rattle.orders.specs.declared.Service.TheVariants.{Check as CheckService}
-use Rattle.orders.specs.declared.Scanned.{Scanned}
-use Rattle.orders.specs.declared.Scanned.TheVariants.{Counted as Accepted, Refused as RefusedFile}
 use Rattle.orders.specs.Scan.{scan_of}
 use Rattle.orders.specs.Operands.{coefficients_in, rows_in, vector_in}
 use Rattle.promises.specs.Services.{group_size, list_size, order_in, pieces_size, served, served_by}
@@ -30,7 +29,7 @@ use Rattle.entry_limit.proofs.Same.{check-same, list_same, split-same}
 use Rattle.entry_limit.proofs.Kept.{FaultBy, Kept, OutcomeBy, check-kept, listing-kept, parts-kept}
 
 -- two ends, each from an outcome of which the first may be a refusal by the entry limit
-module _ {A E : Type 0} (end : A → E) (answer : E → Answer) (By : A → Type 0)
+module _ {A E : Type 0} (end : A → E) (answer : E → Outcome Answer) (By : A → Type 0)
     (met : (x : A) → By x → is_refused_by_entries (answer (end x)) ≡ true) where
   ends-before : {x y : A} {z : E} → end x ≡ z → Kept By x y → is_refused_by_entries (answer z) ≡ false → z ≡ end y
   ends-before {x} same (inl by) e =
@@ -49,7 +48,7 @@ module _ {earlier : ℕ} (h : entry_limit ≤ earlier) where
     where
       met : (x : Outcome Listing) → OutcomeBy x
           → is_refused_by_entries (list_end order.n list_size group_size x).answer ≡ true
-      met (refused number place) by = by
+      met (Err r) by = by
       met (accepted found) by = absurd by
 
   -- SPLIT
@@ -65,7 +64,7 @@ module _ {earlier : ℕ} (h : entry_limit ≤ earlier) where
     where
       met : (x : Outcome Parts) → OutcomeBy x
           → is_refused_by_entries (split_end order.n list_size group_size pieces_size x).answer ≡ true
-      met (refused number place) by = by
+      met (Err r) by = by
       met (accepted found) by = absurd by
 
   -- CHECK
@@ -79,8 +78,8 @@ module _ {earlier : ℕ} (h : entry_limit ≤ earlier) where
     where
       met : (x : Fault) → FaultBy x
           → is_refused_by_entries (check_end group_size (length rows / order.n) (table_of order group_size) x).answer ≡ true
-      met (At number place) by = by
-      met None by = absurd by
+      met (Err r) by = by
+      met no_fault by = absurd by
 
   -- FILES: the answer and its lines, and so what is printed and what a C call leaves
   pub served-before : (service : Service) (file : List ℕ) → is_refused_by_entries (served service file).answer ≡ false
@@ -88,12 +87,12 @@ module _ {earlier : ℕ} (h : entry_limit ≤ earlier) where
   unfolding served served_by served_within served_by_within
   served-before service file = go service (scan_of service file)
     where
-      go : (service : Service) (scanned : Scanned) → is_refused_by_entries (served_by service file scanned).answer ≡ false
+      go : (service : Service) (scanned : Outcome Counts) → is_refused_by_entries (served_by service file scanned).answer ≡ false
           → served_by service file scanned ≡ served_by_within earlier service file scanned
-      go service (RefusedFile number place) e = refl
-      go ListService (Accepted c) e =
+      go service (Err r) e = refl
+      go ListService (accepted c) e =
           ap (list_served c.cells) (list-before (order_in file c) (list_size c) (group_size c) e)
-      go SplitService (Accepted c) e =
+      go SplitService (accepted c) e =
           ap split_served (split-before (order_in file c) (vector_in file c) (list_size c) (group_size c) pieces_size e)
-      go CheckService (Accepted c) e =
+      go CheckService (accepted c) e =
           ap check_served (check-before (order_in file c) (rows_in file c) (coefficients_in file c) (group_size c) e)

@@ -1,5 +1,7 @@
 -- Under a lower entry limit a test, a completion or an outcome is a refusal by that limit, or it is what it is under a
 -- higher one. Assumes nothing.
+use Rattle.std.specs.declared.result.Result.TheVariants.{Err}
+use Rattle.definitions.specs.Refusals.{Fault, no_fault}
 use mathlib.Core.Path.{◌≡◌, refl, sym, ap, subst, ◌∙◌}
 use mathlib.Core.Logic.{◌⊎◌, inl, inr}
 use mathlib.Core.Bool.{Bool, true, false, cond, not, ◌||◌}
@@ -10,8 +12,6 @@ use borrow.Author.Tests.{le-leb, not-false}
 use lib.Dec.{leb}
 use lib.IntN.{ℤ, nat_abs, pos}
 use lib.ListN.{get_or, length}
-use Rattle.definitions.specs.declared.Fault.{Fault}
-use Rattle.definitions.specs.declared.Fault.TheVariants.{None, At}
 use Rattle.definitions.specs.Lists.{until}
 use Rattle.definitions.specs.Vector.{Vector, equal, is_zero, within}
 use Rattle.definitions.specs.Group.{Exchange}
@@ -33,15 +33,15 @@ use Rattle.entry_limit.specs.Calls.{step_within}
 
 -- ---- refusals by the entry limit
 abbrev pub FaultBy : Fault → Type 0
-FaultBy None = ⊥
-FaultBy (At number place) = is_of_entries number ≡ true
+FaultBy no_fault = ⊥
+FaultBy (Err r) = is_of_entries r.number ≡ true
 
 abbrev CompletionBy : Completion → Type 0
 CompletionBy (stopped number place) = is_of_entries number ≡ true
 CompletionBy (running s) = ⊥
 
 abbrev pub OutcomeBy : {A : Type 0} → Outcome A → Type 0
-OutcomeBy (refused number place) = is_of_entries number ≡ true
+OutcomeBy (Err r) = is_of_entries r.number ≡ true
 OutcomeBy (accepted found) = ⊥
 
 -- x is a refusal by the entry limit, or y is the same
@@ -69,12 +69,12 @@ first-kept fs gs k rest =
     kept_next FaultBy FaultBy (λ (f : Fault). first_fault (f ∷ fs)) (λ (f : Fault). first_fault (f ∷ gs)) met same k
   where
     met : (f : Fault) → FaultBy f → FaultBy (first_fault (f ∷ fs))
-    met (At number place) by = by
-    met None by = absurd by
+    met (Err r) by = by
+    met no_fault by = absurd by
 
     same : (f : Fault) → Kept FaultBy (first_fault (f ∷ fs)) (first_fault (f ∷ gs))
-    same None = rest
-    same (At number place) = inr refl
+    same no_fault = rest
+    same (Err r) = inr refl
 
 -- the tests before are the same
 later-kept : (f : Fault) (fs gs : List Fault) → Kept FaultBy (first_fault fs) (first_fault gs)
@@ -89,8 +89,8 @@ where-kept number count met higher by fewer = go (fault_where number count met) 
   where
     go : (f : Fault) → fault_where number count met ≡ f
         → Kept FaultBy (fault_where number count met) (fault_where number count higher)
-    go (At m p) e = inl (subst FaultBy (sym e) (ap is_of_entries (where-at number count met m p e) ∙ by))
-    go None e =
+    go (Err r) e = inl (subst FaultBy (sym e) (ap is_of_entries (where-at number count met r.number r.place e) ∙ by))
+    go no_fault e =
         inr (e ∙ sym ((where-none number count higher).1 (λ p l. fewer p ((where-none number count met).0 e p l))))
 
 -- an outcome after tests
@@ -101,12 +101,12 @@ unless-kept {A} {x = x} {y} k rest =
     kept_next FaultBy OutcomeBy (λ (f : Fault). unless_fault f x) (λ (f : Fault). unless_fault f y) met same k
   where
     met : (f : Fault) → FaultBy f → OutcomeBy (unless_fault f x)
-    met (At number place) by = by
-    met None by = absurd by
+    met (Err r) by = by
+    met no_fault by = absurd by
 
     same : (f : Fault) → Kept OutcomeBy (unless_fault f x) (unless_fault f y)
-    same None = rest
-    same (At number place) = inr refl
+    same no_fault = rest
+    same (Err r) = inr refl
 
 -- ---- the calls, under a lower and a higher entry limit
 module _ {low high : ℕ} (h : low ≤ high) where
@@ -210,7 +210,7 @@ module _ {low high : ℕ} (h : low ≤ high) where
       (listing-kept order list_size group_size))
     where
       met : (x : Outcome Listing) → OutcomeBy x → OutcomeBy (parts_of vector pieces_size x)
-      met (refused number place) by = by
+      met (Err r) by = by
       met (accepted found) by = absurd by
 
   -- ---- brought rows: 17

@@ -1,10 +1,13 @@
 -- With `entry_limit` the calls and services of this crate are those of `definitions` and `promises`. Assumes nothing.
+use Rattle.definitions.specs.Refusals.{accepted}
+use Rattle.std.specs.declared.result.Result.TheVariants.{Err}
+use Rattle.orders.specs.declared.Counts.{Counts}
+use Rattle.definitions.specs.Refusals.{Fault}
 use mathlib.Core.Path.{◌≡◌, refl, ap, ◌∙◌}
 use mathlib.Core.Bool.{cond}
 use mathlib.Core.List.{List, [], ◌∷◌}
 use Prim.Native.Nat.{ℕ, zero, suc}
 use lib.IntN.{ℤ}
-use Rattle.definitions.specs.declared.Fault.{Fault}
 use Rattle.definitions.specs.Limits.{entry_limit}
 use Rattle.definitions.specs.Lists.{until}
 use Rattle.definitions.specs.Group.{Exchange}
@@ -18,8 +21,6 @@ use Rattle.definitions.specs.Calls.{rules_fault, split_call, split_end}
 use Rattle.orders.specs.declared.Service.{Service}
 use Rattle.orders.specs.declared.Service.TheVariants.{List as ListService, Split as SplitService}
 use Rattle.orders.specs.declared.Service.TheVariants.{Check as CheckService}
-use Rattle.orders.specs.declared.Scanned.{Scanned}
-use Rattle.orders.specs.declared.Scanned.TheVariants.{Counted as Accepted, Refused as RefusedFile}
 use Rattle.orders.specs.Scan.{scan_of}
 use Rattle.orders.specs.Operands.{coefficients_in, rows_in, vector_in}
 use Rattle.promises.specs.Services.{group_size, list_size, order_in, pieces_size, served, served_by}
@@ -84,12 +85,12 @@ pub served-same : (service : Service) (file : List ℕ) → served_within entry_
 unfolding served served_by served_within served_by_within
 served-same service file = go service (scan_of service file)
   where
-    go : (service : Service) (scanned : Scanned)
+    go : (service : Service) (scanned : Outcome Counts)
         → served_by_within entry_limit service file scanned ≡ served_by service file scanned
-    go service (RefusedFile number place) = refl
-    go ListService (Accepted c) =
+    go service (Err r) = refl
+    go ListService (accepted c) =
         ap (list_served c.cells) (list_same (order_in file c) (list_size c) (group_size c))
-    go SplitService (Accepted c) =
+    go SplitService (accepted c) =
         ap split_served (split-same (order_in file c) (vector_in file c) (list_size c) (group_size c) pieces_size)
-    go CheckService (Accepted c) =
+    go CheckService (accepted c) =
         ap check_served (check-same (order_in file c) (rows_in file c) (coefficients_in file c) (group_size c))

@@ -1,9 +1,11 @@
 -- The lent calls with the entry limit as a parameter: of Completion, Refusals and Calls each definition that rests on
 -- it, with `entries` in the place of `entry_limit`. With `entry_limit` they are those definitions. Assumes nothing.
+use Rattle.definitions.specs.Refusals.{accepted}
+use Rattle.std.specs.declared.result.Result.TheVariants.{Err}
+use Rattle.definitions.specs.Refusals.{Fault}
 use Rattle.std.specs.Prelude.{Bool, false, ◌||◌, not, List, [], ◌∷◌, ◌++◌, ℕ, ◌+◌, ◌/◌, leb, eqb, ℤ, pos, length, get_or, if◌then◌else◌}
 use Rattle.definitions.specs.declared.Answer.{Answer}
-use Rattle.definitions.specs.declared.Answer.TheVariants.{Moves, Split, Passed, Refused}
-use Rattle.definitions.specs.declared.Fault.{Fault}
+use Rattle.definitions.specs.declared.Answer.TheVariants.{Moves, Split, Passed}
 use Rattle.definitions.specs.Limits.{coefficient_limit}
 use Rattle.definitions.specs.Lists.{until}
 use Rattle.definitions.specs.Vector.{Vector, within, is_zero, equal}
@@ -23,11 +25,11 @@ unfoldable pub is_of_entries : (number : ℕ) → Bool
 is_of_entries number = eqb number 7 || eqb number 12 || eqb number 17
 
 -- the answer is one of them
-unfoldable pub is_refused_by_entries : Answer → Bool
-is_refused_by_entries (Refused number place) = is_of_entries number
-is_refused_by_entries (Moves rows members stored sums) = false
-is_refused_by_entries (Split pieces rows members stored sums) = false
-is_refused_by_entries (Passed rows sums) = false
+unfoldable pub is_refused_by_entries : Outcome Answer → Bool
+is_refused_by_entries (Err r) = is_of_entries r.number
+is_refused_by_entries (accepted (Moves rows members stored sums)) = false
+is_refused_by_entries (accepted (Split pieces rows members stored sums)) = false
+is_refused_by_entries (accepted (Passed rows sums)) = false
 
 module _ (entries : ℕ) where
   -- ---- the completion

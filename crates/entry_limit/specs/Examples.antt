@@ -1,4 +1,5 @@
 -- Orders with an entry of 5,000, whose answers are others under the entry limit before, 10,000. Assumes nothing.
+use Rattle.definitions.specs.Refusals.{Outcome}
 use Rattle.std.specs.Prelude.{List, [], ◌∷◌, ℕ, ℤ, pos, negsuc}
 use Rattle.definitions.specs.declared.Answer.{Answer}
 use Rattle.definitions.specs.Lent.{Order, order_of}
@@ -11,10 +12,10 @@ limit_before = 10_000
 
 -- an answer, and the one under the entry limit before
 pub record Answers : Type 0 where
-  pub now : Answer
-  pub before : Answer
+  pub now : Outcome Answer
+  pub before : Outcome Answer
 
-abbrev pub answers : (now before : Answer) → Answers
+abbrev pub answers : (now before : Outcome Answer) → Answers
 answers now before = record { now = now; before = before }
 
 abbrev pub listed : Order → (list_size group_size : ℕ) → Answers

@@ -1,14 +1,14 @@
 -- What the services answer to order files, with the entry limit as a parameter. Assumes nothing.
+use Rattle.definitions.specs.Refusals.{Outcome, accepted, refused}
+use Rattle.std.specs.declared.result.Result.TheVariants.{Err}
+use Rattle.orders.specs.declared.Counts.{Counts}
 use Rattle.std.specs.Prelude.{List, [], ℕ}
-use Rattle.definitions.specs.declared.Answer.TheVariants.{Refused}
 use Rattle.definitions.specs.Limits.{piece_width}
 use Rattle.definitions.specs.Lent.{chunks}
 use Rattle.definitions.specs.Calls.{ListEnd, SplitEnd, CheckEnd}
 use Rattle.orders.specs.declared.Service.{Service}
 use Rattle.orders.specs.declared.Service.TheVariants.{List as ListService, Split as SplitService}
 use Rattle.orders.specs.declared.Service.TheVariants.{Check as CheckService}
-use Rattle.orders.specs.declared.Scanned.{Scanned}
-use Rattle.orders.specs.declared.Scanned.TheVariants.{Counted as Accepted, Refused as RefusedFile}
 use Rattle.orders.specs.Scan.{scan_of}
 use Rattle.orders.specs.Operands.{rows_in, coefficients_in, vector_in}
 use Rattle.answers.specs.Answers.{line_count}
@@ -26,14 +26,14 @@ abbrev pub check_served : CheckEnd → Served
 check_served end = record { answer = end.answer; lines = [] }
 
 module _ (entries : ℕ) where
-  unfoldable pub served_by_within : Service → (file : List ℕ) → Scanned → Served
-  served_by_within service file (RefusedFile number place) = record { answer = Refused number place; lines = [] }
-  served_by_within ListService file (Accepted c) =
+  unfoldable pub served_by_within : Service → (file : List ℕ) → Outcome Counts → Served
+  served_by_within service file (Err r) = record { answer = refused r.number r.place; lines = [] }
+  served_by_within ListService file (accepted c) =
       list_served c.cells (list_call_within entries (order_in file c) (list_size c) (group_size c))
-  served_by_within SplitService file (Accepted c) =
+  served_by_within SplitService file (accepted c) =
       split_served
       (split_call_within entries (order_in file c) (vector_in file c) (list_size c) (group_size c) pieces_size)
-  served_by_within CheckService file (Accepted c) =
+  served_by_within CheckService file (accepted c) =
       check_served
       (check_call_within entries (order_in file c) (rows_in file c) (coefficients_in file c) (group_size c))
 

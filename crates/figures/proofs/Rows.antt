@@ -14,7 +14,7 @@ use lib.Seq.{get_or-set_same, get_or-set_other}
 use Rattle.definitions.specs.Limits.{list_limit}
 use Rattle.definitions.specs.Lists.{any, select}
 use Rattle.definitions.specs.Window.{different}
-use Rattle.figures.specs.Window.{Counted, row_in, rows_in, uses}
+use Rattle.figures.specs.Window.{Counted, Named, row_in, rows_in, uses}
 use Rattle.figures.proofs.Parts.{part-first, part-last, part_length}
 
 -- 1 if two numbers are equal, else 0
@@ -28,7 +28,7 @@ same-no : {r x : ℕ} → (r ≡ x → ⊥) → same r x ≡ 0
 same-no {r} {x} e = rw (ne_eqb r x e)
 
 -- 1 if a number is zero, else 0
-pub same-zero : (n : ℕ) → same n 0 ≡ 1 - n
+same-zero : (n : ℕ) → same n 0 ≡ 1 - n
 same-zero zero = refl
 same-zero (suc n) = rw (eqb-suc-zero n) (omega arith)
 
@@ -124,24 +124,24 @@ module _ {x : ℕ} {rest area : List ℕ} {count : ℕ} (small : x < list_limit)
   first-uses = omega (arith, t.used x small, uses-first x x rest, same-yes {r = x} refl)
 
   -- the first number has a use
-  pub leaving-some : 1 ≤ get_or area x 0
+  leaving-some : 1 ≤ get_or area x 0
   leaving-some = omega (arith, first-uses)
 
   only : same (get_or area x 0) 1 ≡ 1 - uses x rest
   only = rw (first-uses, eqb-suc-suc (uses x rest) 0) (same-zero (uses x rest))
 
   -- if that is its only one, it is counted
-  pub leaving-less : same (get_or area x 0) 1 ≤ count
+  leaving-less : same (get_or area x 0) 1 ≤ count
   leaving-less = omega (arith, only, t.counted, different-first x rest)
 
   -- it leaves
-  pub leaving : Tallied rest (set area x (get_or area x 0 - 1)) (count - same (get_or area x 0) 1)
+  leaving : Tallied rest (set area x (get_or area x 0 - 1)) (count - same (get_or area x 0) 1)
   leaving =
       stored t small (omega (arith, first-uses)) (λ r e. omega (arith, uses-first r x rest, same-no e))
       (omega (arith, only, t.counted, different-first x rest))
 
 -- a number comes in behind
-pub entering : {x : ℕ} {rest area : List ℕ} {count : ℕ} → x < list_limit → Tallied rest area count
+entering : {x : ℕ} {rest area : List ℕ} {count : ℕ} → x < list_limit → Tallied rest area count
     → Tallied (rest ++ x ∷ []) (set area x (suc (get_or area x 0))) (count + same (get_or area x 0) 0)
 entering {x} {rest} {area} {count} small t =
     stored t small (omega (arith, t.used x small, uses-last x x rest, same-yes {r = x} refl))
@@ -150,42 +150,61 @@ entering {x} {rest} {area} {count} small t =
 
 -- ---- the rows of a window
 
-module _ (records : List ℤ) where
-  module _ (width i : ℕ) {area : List ℕ} {count : ℕ} (some : 1 ≤ width) where
+module _ (records : List ℤ) (width i : ℕ) where
+  -- the rows of the records that both windows share
+  abbrev shared : List ℕ
+  shared = rows_in records (suc i - width) i
+
+  module _ {area : List ℕ} {count : ℕ} (some : 1 ≤ width) where
     tallied : {numbers : List ℕ} → rows_in records (i - width) i ≡ numbers → Counted records width i area count
         → Tallied numbers area count
     tallied e c =
         subst (λ (numbers : List ℕ). Tallied numbers area count) e
         (record { long = c.long; used = c.used; counted = c.counted })
 
-    -- a full window begins with the record that leaves
-    pub window-full : width ≤ i → Counted records width i area count
-        → Tallied (row_in records (i - width) ∷ rows_in records (suc i - width) i) area count
-    window-full h =
-        let e : suc (i - width) ≡ suc i - width = omega arith in
-        tallied
-        (part-first (row_in records) (i - width) i (omega arith)
-        ∙ ap (λ (from : ℕ). row_in records (i - width) ∷ rows_in records from i) e)
+    module _ (h : width ≤ i) (named : Named records i) (c : Counted records width i area count) {row : ℕ} (e : row ≡ row_in records (i - width)) where
+      -- a full window begins with the record that leaves
+      full : Tallied (row ∷ shared) area count
+      full =
+          let s : suc (i - width) ≡ suc i - width = omega arith in
+          tallied
+          (part-first (row_in records) (i - width) i (omega arith)
+          ∙ ap (λ (from : ℕ). row_in records (i - width) ∷ rows_in records from i) s
+          ∙ ap (λ (x : ℕ). x ∷ shared) (sym e)) c
+
+      first_small : row < list_limit
+      first_small = rw e (named.rows (i - width) (omega arith))
+
+      pub oldest-some : 1 ≤ get_or area row 0
+      oldest-some = leaving-some first_small full
+
+      pub oldest-less : same (get_or area row 0) 1 ≤ count
+      oldest-less = leaving-less first_small full
+
+      pub oldest-left : Tallied shared (set area row (get_or area row 0 - 1)) (count - same (get_or area row 0) 1)
+      oldest-left = leaving first_small full
 
     -- from any other none leaves
-    pub window-filling : i < width → Counted records width i area count
-        → Tallied (rows_in records (suc i - width) i) area count
-    window-filling h =
+    pub none_left : i < width → Counted records width i area count → Tallied shared area count
+    none_left h =
         let e : i - width ≡ suc i - width = omega arith in
         tallied (ap (λ (from : ℕ). rows_in records from i) e)
 
-    -- with room for one more, no row has more uses, and no more rows are counted, than there are records
-    pub window-room : {r : ℕ} → r < list_limit → Tallied (rows_in records (suc i - width) i) area count
-        → (get_or area r 0 < width) × (count < width)
-    window-room {r} h t =
-        let numbers = rows_in records (suc i - width) i in
-        let few = part_length (row_in records) (suc i - width) i in
-        (omega (arith, few, t.used r h, uses-few r numbers), omega (arith, few, t.counted, different-few numbers))
+    module _ (named : Named records i) (t : Tallied shared area count) {row : ℕ} (e : row ≡ row_in records i) where
+      last-small : row < list_limit
+      last-small = rw e (named.rows i (omega arith))
 
-    -- record i comes in
-    pub window-next : row_in records i < list_limit → Tallied (rows_in records (suc i - width) i) area count →
-        let before = get_or area (row_in records i) 0 in
-        Counted records width (suc i) (set area (row_in records i) (suc before)) (count + same before 0)
-    window-next h t =
-        let k = rw (← part-last (row_in records) (suc i - width) i (omega arith)) at (entering h t) in
-        record { long = k.long; used = k.used; counted = k.counted }
+      -- with room for one more, no row has more uses, and no more rows are counted, than there are records
+      pub newest-few : get_or area row 0 < width
+      newest-few = omega (arith, part_length (row_in records) (suc i - width) i, t.used row last-small, uses-few row shared)
+
+      pub newest-room : count + same (get_or area row 0) 0 ≤ width
+      newest-room =
+          omega (arith, part_length (row_in records) (suc i - width) i, same-zero (get_or area row 0), t.counted, different-few shared)
+
+      -- record i comes in
+      pub newest-in : Counted records width (suc i) (set area row (suc (get_or area row 0))) (count + same (get_or area row 0) 0)
+      newest-in =
+          let last = part-last (row_in records) (suc i - width) i (omega arith) ∙ ap (λ (x : ℕ). shared ++ x ∷ []) (sym e) in
+          let k = rw (← last) at (entering last-small t) in
+          record { long = k.long; used = k.used; counted = k.counted }

@@ -11,8 +11,9 @@ use lib.IntN.{ℤ, pos, negsuc}
 use lib.Signed.{lt_z, mag}
 use borrow.Author.Tests.{eqb-true, eqb-false, ltb-true, ltb-false, lt-ltb, le-ltb}
 use mir.Syntax.{w32}
-use mir.Val.{SFits, hbits, of_z, to_z}
-use mir.Facts.{to_z-of_z}
+use mir.Val.{hbits, of_z}
+use Rattle.std.specs.Int.{int_max, int_min}
+use Rattle.std.proofs.lemmas.Int.{ints}
 use Rattle.definitions.specs.declared.View.{View}
 use Rattle.definitions.specs.Vector.{equal, equal_cell}
 use Rattle.definitions.specs.Window.{answer_width, chosen, chosen_from, larger, lesser}
@@ -54,14 +55,6 @@ module _ (precedes : ℤ → ℤ → Bool) (on : (answer : Bool) → GoesOn prec
       picks a b true = inr refl
       picks a b false = inl refl
 
--- the machine chooses by the numbers of the bits
-module _ (precedes : ℤ → ℤ → Bool) {a b : ℤ} (fa : SFits w32 a) (fb : SFits w32 b) where
-  pub takes-second : precedes (to_z w32 (of_z w32 b)) (to_z w32 (of_z w32 a)) ≡ true → to_z w32 (of_z w32 b) ≡ second precedes a b
-  takes-second h = rw (simp (to_z-of_z fa, to_z-of_z fb) at h) (to_z-of_z fb)
-
-  pub takes_first : precedes (to_z w32 (of_z w32 b)) (to_z w32 (of_z w32 a)) ≡ false → to_z w32 (of_z w32 a) ≡ second precedes a b
-  takes_first h = rw (simp (to_z-of_z fa, to_z-of_z fb) at h) (to_z-of_z fa)
-
 -- two numbers compared, by their positive and negative parts
 less-is : (x y : ℤ) → lt_z x y ≡ ltb (up x + down y) (up y + down x)
 less-is (pos a) (pos b) = simp add-zero
@@ -86,6 +79,15 @@ lesser-choice = second-choice lt_z less-on
 pub larger-choice : Choice larger
 unfolding larger
 larger-choice = second-choice (λ a b. lt_z b a) (λ answer a b c h k. less-on answer c b a k h)
+
+-- the machine's own choices are these
+pub min-is : (x y : ℤ) → int_min x y ≡ lesser x y
+unfolding lesser
+min-is x y = refl
+
+pub max-is : (x y : ℤ) → int_max x y ≡ larger x y
+unfolding larger
+max-is x y = grind (arith, ints)
 
 -- ---- numbers of a window
 

@@ -5,7 +5,6 @@
 
 ghost use Rattle.std.specs.Prelude.{◌≡◌, cond, [], ◌∷◌, ◌++◌, suc, ◌+◌, ◌-◌, ◌≤◌, ◌<◌, ◌/◌, eqb, length, get_or, set};
 ghost use Rattle.definitions.specs.Limits.{record_width, window_limit};
-ghost use Rattle.definitions.specs.Window.{larger, lesser};
 ghost use Rattle.figures.specs.Window.{Counted, Named, Rows, Spans, Viewable};
 ghost use Rattle.figures.specs.Window.{is_stale, row_in, value_in, values_in};
 
@@ -39,7 +38,7 @@ fn enter(uses: &mut [usize], row: usize) -> usize
 {
     let before = uses[row];
     uses[row] = before + 1;
-    if before == 0 { 1 } else { 0 }
+    usize::from(before == 0)
 }
 
 // A use of a row less: 1 if it was the only one, else 0.
@@ -51,7 +50,7 @@ fn leave(uses: &mut [usize], row: usize) -> usize
 {
     let before = uses[row];
     uses[row] = before - 1;
-    if before == 1 { 1 } else { 0 }
+    usize::from(before == 1)
 }
 
 // Record `i` comes into the window, and the record that is one too many leaves it: the number of different rows.
@@ -70,27 +69,13 @@ pub fn count_rows(
     let mut kept = before;
     if width <= i {
         let row = row_at(records, i - width);
-        kept -= leave(&mut *uses, row);
+        kept -= leave(uses, row);
     }
     let row = row_at(records, i);
     kept + enter(uses, row)
 }
 
 // ---- values
-
-// The lesser of two numbers.
-fn lesser(a: i32, b: i32) -> i32
-    ensures told { result ≡ lesser a b }
-{
-    if b < a { b } else { a }
-}
-
-// The larger of two numbers.
-fn larger(a: i32, b: i32) -> i32
-    ensures told { result ≡ larger a b }
-{
-    if a < b { b } else { a }
-}
 
 // The value of the chosen cell in answer row `j`.
 fn value_at(answers: &[i32], view: View, j: usize) -> i32
@@ -110,12 +95,10 @@ fn afresh(answers: &[i32], view: View, from: usize, to: usize, value: i32) -> Ex
 {
     let mut smallest = value;
     let mut largest = value;
-    let mut j = to;
-    while from < j {
-        j -= 1;
+    for j in (from..to).rev() {
         let x = value_at(answers, view, j);
-        smallest = lesser(x, smallest);
-        largest = larger(x, largest);
+        smallest = x.min(smallest);
+        largest = x.max(largest);
     }
     Extremes { smallest, largest }
 }
@@ -163,7 +146,7 @@ pub fn next_extremes(
         return afresh(answers, view, from, i, value);
     }
     Extremes {
-        smallest: lesser(before.smallest, value),
-        largest: larger(before.largest, value),
+        smallest: before.smallest.min(value),
+        largest: before.largest.max(value),
     }
 }

@@ -1,6 +1,8 @@
 -- THE LENT CALLS FOR C keep their promises (Specification 1.1, 7.4 and 11): a result below zero leaves zeros, another
 -- what
 -- the call without counts leaves. Assumes nothing.
+use Rattle.std.specs.declared.result.Result.TheVariants.{Err}
+use Rattle.definitions.specs.Refusals.{Fault, no_fault, fault_at}
 use mathlib.Core.Path.{◌≡◌, refl, sym, ap, ◌∙◌, subst, subst⁻¹}
 use mathlib.Core.Bool.{true, false, true≢false}
 use mathlib.Core.Logic.{◌↔◌}
@@ -12,9 +14,7 @@ use lib.IntN.{ℤ, pos, negsuc}
 use lib.ListN.{length, replicate}
 use lib.Signed.{lt_z}
 use Rattle.definitions.specs.declared.Answer.{Answer}
-use Rattle.definitions.specs.declared.Answer.TheVariants.{Passed, Refused}
-use Rattle.definitions.specs.declared.Fault.{Fault}
-use Rattle.definitions.specs.declared.Fault.TheVariants.{None, At}
+use Rattle.definitions.specs.declared.Answer.TheVariants.{Passed}
 use Rattle.definitions.specs.Lent.{Order, filled, table_of}
 use Rattle.definitions.specs.Refusals.{Outcome, accepted, refused}
 use Rattle.definitions.specs.Calls.{ListEnd, Listing, Parts, SplitEnd, CheckEnd, list_call, list_end, listing, parts}
@@ -39,14 +39,14 @@ use Rattle.lent.proofs.Ending.{Called, Counts, Ending, count-above, counts, endi
 use Rattle.lent.proofs.Ending.{refusal-called, refuses, turned}
 
 -- ---- signs that do not fit
-module _ {X : Type 0} {answer : Answer} {result : ℤ} {area : List ℕ} (r : Returned answer result area) where
+module _ {X : Type 0} {answer : Outcome Answer} {result : ℤ} {area : List ℕ} (r : Returned answer result area) where
   -- a count is not below zero
   count-not : Counts answer → lt_z result (pos 0) ≡ true → X
   count-not k h = absurd (true≢false (sym h ∙ ap (λ (z : ℤ). lt_z z (pos 0)) (r.results ∙ k.1) ∙ count-above k.0))
 
 -- a refusal is
 refusal-not : {X : Type 0} {number place : ℕ} {result : ℤ} {area : List ℕ} → 1 ≤ number
-    → Returned (Refused number place) result area → lt_z result (pos 0) ≡ false → X
+    → Returned (refused number place) result area → lt_z result (pos 0) ≡ false → X
 refusal-not {number = number} {place} n r h =
     absurd (true≢false (sym (refusal-below number place n) ∙ ap (λ (z : ℤ). lt_z z (pos 0)) (sym r.results) ∙ h))
 
@@ -78,10 +78,10 @@ module _ (order : Order) (list_size group_size : ℕ) where
           → Called (λ (e : ListEnd). e.answer) (list_call order list_size group_size) list_refused
       go (accepted found) e =
           counts (length found.rows, ap result_of (list-accepted order list_size group_size found e).answer)
-      go (refused a b) e =
+      go (Err r) e =
           let q = ap (list_end order.n list_size group_size) e in
           let h = ap (λ (x : ListEnd). x.answer) q in
-          refuses a b h q (list-answer-reported order list_size group_size a b h)
+          refuses r.number r.place h q (list-answer-reported order list_size group_size r.number r.place h)
 
   -- its answer can be returned
   pub list-small : Small (list_call order list_size group_size).answer
@@ -91,19 +91,19 @@ module _ (order : Order) (list_size group_size : ℕ) where
       go : (o : Outcome Listing) → listing order list_size group_size ≡ o
           → Small (list_end order.n list_size group_size o).answer
       go (accepted found) e = omega (arith, (listing-counts order list_size group_size found e).rows)
-      go (refused a b) e =
+      go (Err r) e =
           refusal-fits
-          (list-answer-reported order list_size group_size a b (ap (λ (o : Outcome Listing). (list_end order.n list_size group_size o).answer) e))
+          (list-answer-reported order list_size group_size r.number r.place (ap (λ (o : Outcome Listing). (list_end order.n list_size group_size o).answer) e))
 
 -- the same sizes, said otherwise
-pub list-sized : {order : Order} {list_size list_size' group_size group_size' : ℕ} {answer : Answer} {list : List ℤ}
+pub list-sized : {order : Order} {list_size list_size' group_size group_size' : ℕ} {answer : Outcome Answer} {list : List ℤ}
     {group : List ℕ} → list_size ≡ list_size' → group_size ≡ group_size'
     → ListPromise order list_size group_size answer list group → ListPromise order list_size' group_size' answer list group
 list-sized {order} {list_size' = list_size'} {group_size = group_size} {answer = answer} {list} {group} e f P =
     subst (λ (k : ℕ). ListPromise order list_size' k answer list group) f
     (subst (λ (k : ℕ). ListPromise order k group_size answer list group) e P)
 
-module _ (order : Order) (list : List ℤ) (group area : List ℕ) {answer : Answer} {first : List ℤ} {table : List ℕ}
+module _ (order : Order) (list : List ℤ) (group area : List ℕ) {answer : Outcome Answer} {first : List ℤ} {table : List ℕ}
     {result : ℤ} (P : ListPromise order (length list) (length group) answer first table)
     (R : Reports answer (length area) result area) where
   -- its two ends
@@ -127,9 +127,9 @@ module _ (order : Order) (list : List ℤ) (group area : List ℕ) {answer : Ans
       go (accepted found) e k =
           let A = P.accepted _ _ _ _ (P.answers ∙ (list-accepted order (length list) (length group) found e).answer) in
           subst⁻¹ (λ (x : List ℤ). ListAccepted order answer x group) l (subst⁻¹ (ListAccepted order answer first) g A)
-      go (refused a b) e k =
+      go (Err r) e k =
           let h = ap (λ (o : Outcome Listing). (list_end order.n (length list) (length group) o).answer) e in
-          refusal-negative a b k.0 (list-answer-reported order (length list) (length group) a b h).some k.1
+          refusal-negative r.number r.place k.0 (list-answer-reported order (length list) (length group) r.number r.place h).some k.1
 
   -- the areas stay as they are
   pub list-kept : lt_z result (pos 0) ≡ false → list ≡ first → group ≡ table → ListLent order result list group area
@@ -145,7 +145,7 @@ module _ (order : Order) (list : List ℤ) (group area : List ℕ) {answer : Ans
         accepted = λ j e. record {
           answer = answer;
           kept = list-found k l g;
-          returned = subst⁻¹ (λ (a : Answer). Returned a result area) P.answers r;
+          returned = subst⁻¹ (λ (a : Outcome Answer). Returned a result area) P.answers r;
         };
         refused = λ j e. below-above h e;
       }
@@ -185,10 +185,10 @@ module _ (order : Order) (list_size group_size coefficient_size : ℕ) where
       go (accepted found) e =
           counts
           (length found.listing.rows, ap result_of (certified-accepted order list_size group_size coefficient_size found e).answer)
-      go (refused a b) e =
+      go (Err r) e =
           let q = ap (certified_end order.n list_size group_size coefficient_size) e in
           let h = ap (λ (x : CertifiedEnd). x.answer) q in
-          refuses a b h q (certified-answer-reported order list_size group_size coefficient_size a b h)
+          refuses r.number r.place h q (certified-answer-reported order list_size group_size coefficient_size r.number r.place h)
 
   -- its answer can be returned
   pub certified-small : Small (certified_call order list_size group_size coefficient_size).answer
@@ -200,12 +200,12 @@ module _ (order : Order) (list_size group_size coefficient_size : ℕ) where
       go (accepted found) e =
           let plain = certified-listing order list_size group_size coefficient_size found e in
           omega (arith, (listing-counts order list_size group_size found.listing plain).rows)
-      go (refused a b) e =
+      go (Err r) e =
           let h = ap (λ (o : Outcome CertifiedListing). (certified_end order.n list_size group_size coefficient_size o).answer) e in
-          refusal-fits (certified-answer-reported order list_size group_size coefficient_size a b h)
+          refusal-fits (certified-answer-reported order list_size group_size coefficient_size r.number r.place h)
 
 -- the same sizes, said otherwise
-pub certified-sized : {order : Order} {list_size list_size' group_size group_size' size size' : ℕ} {answer : Answer}
+pub certified-sized : {order : Order} {list_size list_size' group_size group_size' size size' : ℕ} {answer : Outcome Answer}
     {list : List ℤ} {group : List ℕ} {coefficients : List ℤ} → list_size ≡ list_size' → group_size ≡ group_size'
     → size ≡ size' → CertifiedPromise order list_size group_size size answer list group coefficients
     → CertifiedPromise order list_size' group_size' size' answer list group coefficients
@@ -214,7 +214,7 @@ certified-sized {order} {list_size' = ls} {group_size} {group_size' = gs} {size}
     (subst (λ (k : ℕ). CertifiedPromise order ls k size a list group coefficients) f
     (subst (λ (k : ℕ). CertifiedPromise order k group_size size a list group coefficients) e P))
 
-module _ (order : Order) (list : List ℤ) (group : List ℕ) (coefficients : List ℤ) (area : List ℕ) {answer : Answer}
+module _ (order : Order) (list : List ℤ) (group : List ℕ) (coefficients : List ℤ) (area : List ℕ) {answer : Outcome Answer}
     {first : List ℤ} {table : List ℕ} {noted : List ℤ} {result : ℤ}
     (P : CertifiedPromise order (length list) (length group) (length coefficients) answer first table noted)
     (R : Reports answer (length area) result area) where
@@ -253,10 +253,10 @@ module _ (order : Order) (list : List ℤ) (group : List ℕ) (coefficients : Li
           let A = P.accepted _ _ _ _ (P.answers ∙ H.answer) in
           subst⁻¹ (λ (x : List ℤ). Found x group coefficients) l
           (subst⁻¹ (λ (y : List ℕ). Found first y coefficients) g (subst⁻¹ (λ (z : List ℤ). Found first table z) m A))
-      go (refused a b) e k =
+      go (Err r) e k =
           let h = ap (λ (o : Outcome CertifiedListing). (certified_end order.n (length list) (length group) (length coefficients) o).answer) e in
-          refusal-negative a b k.0
-          (certified-answer-reported order (length list) (length group) (length coefficients) a b h).some k.1
+          refusal-negative r.number r.place k.0
+          (certified-answer-reported order (length list) (length group) (length coefficients) r.number r.place h).some k.1
 
   -- the areas stay as they are
   pub certified-kept : lt_z result (pos 0) ≡ false → list ≡ first → group ≡ table → coefficients ≡ noted
@@ -274,7 +274,7 @@ module _ (order : Order) (list : List ℤ) (group : List ℕ) (coefficients : Li
         accepted = λ j e. record {
           answer = answer;
           kept = certified-found k l g m;
-          returned = subst⁻¹ (λ (a : Answer). Returned a result area) P.answers r;
+          returned = subst⁻¹ (λ (a : Outcome Answer). Returned a result area) P.answers r;
         };
         refused = λ j e. below-above h e;
       }
@@ -317,10 +317,10 @@ module _ (order : Order) (vector : List ℤ) (list_size group_size pieces_size :
       go (accepted found) e =
           counts
           (length found.pieces, ap result_of (split-accepted order vector list_size group_size pieces_size found e).answer)
-      go (refused a b) e =
+      go (Err r) e =
           let q = ap (split_end order.n list_size group_size pieces_size) e in
           let h = ap (λ (x : SplitEnd). x.answer) q in
-          refuses a b h q (split-answer-reported order vector list_size group_size pieces_size a b h)
+          refuses r.number r.place h q (split-answer-reported order vector list_size group_size pieces_size r.number r.place h)
 
   -- its answer can be returned
   pub split-small : pieces_size < 2 ^ 64 → Small (split_call order vector list_size group_size pieces_size).answer
@@ -330,13 +330,13 @@ module _ (order : Order) (vector : List ℤ) (list_size group_size pieces_size :
       go : (o : Outcome Parts) → parts order vector list_size group_size pieces_size ≡ o
           → Small (split_end order.n list_size group_size pieces_size o).answer
       go (accepted found) e = omega (arith, (split-counts order vector list_size group_size pieces_size found e).room)
-      go (refused a b) e =
+      go (Err r) e =
           let h = ap (λ (o : Outcome Parts). (split_end order.n list_size group_size pieces_size o).answer) e in
-          refusal-fits (split-answer-reported order vector list_size group_size pieces_size a b h)
+          refusal-fits (split-answer-reported order vector list_size group_size pieces_size r.number r.place h)
 
 -- the same sizes, said otherwise
 pub split-sized : {order : Order} {vector : List ℤ} {list_size list_size' group_size group_size' pieces_size pieces_size' : ℕ}
-    {answer : Answer} {list : List ℤ} {group : List ℕ} {pieces : List ℤ} → list_size ≡ list_size'
+    {answer : Outcome Answer} {list : List ℤ} {group : List ℕ} {pieces : List ℤ} → list_size ≡ list_size'
     → group_size ≡ group_size' → pieces_size ≡ pieces_size'
     → SplitPromise order vector list_size group_size pieces_size answer list group pieces
     → SplitPromise order vector list_size' group_size' pieces_size' answer list group pieces
@@ -345,7 +345,7 @@ split-sized {order} {vector} {list_size' = ls} {group_size} {group_size' = gs} {
     (subst (λ (k : ℕ). SplitPromise order vector ls k pieces_size a list group pieces) f
     (subst (λ (k : ℕ). SplitPromise order vector k group_size pieces_size a list group pieces) e P))
 
-module _ (order : Order) (vector list : List ℤ) (group : List ℕ) (pieces : List ℤ) (area : List ℕ) {answer : Answer}
+module _ (order : Order) (vector list : List ℤ) (group : List ℕ) (pieces : List ℤ) (area : List ℕ) {answer : Outcome Answer}
     {first : List ℤ} {table : List ℕ} {made : List ℤ} {result : ℤ}
     (P : SplitPromise order vector (length list) (length group) (length pieces) answer first table made)
     (R : Reports answer (length area) result area) where
@@ -381,11 +381,11 @@ module _ (order : Order) (vector list : List ℤ) (group : List ℕ) (pieces : L
           subst⁻¹ (λ (x : List ℤ). SplitAccepted order vector answer x group pieces) l
           (subst⁻¹ (λ (x : List ℕ). SplitAccepted order vector answer first x pieces) g
           (subst⁻¹ (SplitAccepted order vector answer first table) m A))
-      go (refused a b) e k =
+      go (Err r) e k =
           let h =
           ap (λ (o : Outcome Parts). (split_end order.n (length list) (length group) (length pieces) o).answer) e in
-          let q = split-answer-reported order vector (length list) (length group) (length pieces) a b h in
-          refusal-negative a b k.0 q.some k.1
+          let q = split-answer-reported order vector (length list) (length group) (length pieces) r.number r.place h in
+          refusal-negative r.number r.place k.0 q.some k.1
 
   -- 15 is said only of a vector outside the lattice
   split-outside : result ≡ refusal_of 15 0 → Outside order vector
@@ -416,7 +416,7 @@ module _ (order : Order) (vector list : List ℤ) (group : List ℕ) (pieces : L
         accepted = λ j e. record {
           answer = answer;
           kept = split-found k l g m;
-          returned = subst⁻¹ (λ (a : Answer). Returned a result area) P.answers r;
+          returned = subst⁻¹ (λ (a : Outcome Answer). Returned a result area) P.answers r;
         };
         refused = λ j e. below-above h e;
         outside = split-outside;
@@ -451,7 +451,7 @@ module _ (order : Order) (vector list : List ℤ) (group : List ℕ) (pieces : L
 module _ (order : Order) (rows coefficients : List ℤ) (group_size : ℕ) where
   -- a refusal of Check
   abbrev check_refused : (number place : ℕ) → CheckEnd
-  check_refused number place = check_end group_size 0 [] (At number place)
+  check_refused number place = check_end group_size 0 [] (fault_at number place)
 
   -- how Check ends
   check-called : Called (λ (e : CheckEnd). e.answer) (check_call order rows coefficients group_size) check_refused
@@ -460,13 +460,13 @@ module _ (order : Order) (rows coefficients : List ℤ) (group_size : ℕ) where
     where
       go : (f : Fault) → check_fault order rows coefficients group_size ≡ f
           → Called (λ (e : CheckEnd). e.answer) (check_call order rows coefficients group_size) check_refused
-      go None e =
+      go no_fault e =
           counts
           (length rows / order.n, ap (λ (f : Fault). result_of (check_end group_size (length rows / order.n) (table_of order group_size) f).answer) e)
-      go (At a b) e =
+      go (Err r) e =
           let q = ap (check_end group_size (length rows / order.n) (table_of order group_size)) e in
           let h = ap (λ (x : CheckEnd). x.answer) q in
-          refuses a b h q (check-answer-reported order rows coefficients group_size a b h)
+          refuses r.number r.place h q (check-answer-reported order rows coefficients group_size r.number r.place h)
 
   -- its answer can be returned
   pub check-small : Small (check_call order rows coefficients group_size).answer
@@ -475,35 +475,35 @@ module _ (order : Order) (rows coefficients : List ℤ) (group_size : ℕ) where
     where
       go : (f : Fault) → check_fault order rows coefficients group_size ≡ f
           → Small (check_end group_size (length rows / order.n) (table_of order group_size) f).answer
-      go None e = omega (arith, (check-counts order rows coefficients group_size e).rows)
-      go (At a b) e =
+      go no_fault e = omega (arith, (check-counts order rows coefficients group_size e).rows)
+      go (Err r) e =
           let h =
           ap (λ (f : Fault). (check_end group_size (length rows / order.n) (table_of order group_size) f).answer) e in
-          refusal-fits (check-answer-reported order rows coefficients group_size a b h)
+          refusal-fits (check-answer-reported order rows coefficients group_size r.number r.place h)
 
   -- the answer of a pass
   check-passes : Counts (check_call order rows coefficients group_size).answer
-      → (count : ℕ) × (sums : ℕ) × ((check_call order rows coefficients group_size).answer ≡ Passed count sums)
+      → (count : ℕ) × (sums : ℕ) × ((check_call order rows coefficients group_size).answer ≡ accepted (Passed count sums))
   unfolding check_call check_end
   check-passes k = go (check_fault order rows coefficients group_size) refl k
     where
       go : (f : Fault) → check_fault order rows coefficients group_size ≡ f
           → Counts (check_end group_size (length rows / order.n) (table_of order group_size) f).answer
-          → (count : ℕ) × (sums : ℕ) × ((check_end group_size (length rows / order.n) (table_of order group_size) f).answer ≡ Passed count sums)
-      go None e k = (_, _, refl)
-      go (At a b) e k =
+          → (count : ℕ) × (sums : ℕ) × ((check_end group_size (length rows / order.n) (table_of order group_size) f).answer ≡ accepted (Passed count sums))
+      go no_fault e k = (_, _, refl)
+      go (Err r) e k =
           let h =
           ap (λ (f : Fault). (check_end group_size (length rows / order.n) (table_of order group_size) f).answer) e in
-          refusal-negative a b k.0 (check-answer-reported order rows coefficients group_size a b h).some k.1
+          refusal-negative r.number r.place k.0 (check-answer-reported order rows coefficients group_size r.number r.place h).some k.1
 
 -- the same size, said otherwise
-pub check-sized : {order : Order} {rows coefficients : List ℤ} {size size' : ℕ} {answer : Answer} {group : List ℕ}
+pub check-sized : {order : Order} {rows coefficients : List ℤ} {size size' : ℕ} {answer : Outcome Answer} {group : List ℕ}
     → size ≡ size' → CheckPromise order rows coefficients size answer group
     → CheckPromise order rows coefficients size' answer group
 check-sized {order} {rows} {coefficients} {answer = answer} {group} e P =
     subst (λ (k : ℕ). CheckPromise order rows coefficients k answer group) e P
 
-module _ (order : Order) (rows coefficients : List ℤ) (group area : List ℕ) {answer : Answer} {table : List ℕ}
+module _ (order : Order) (rows coefficients : List ℤ) (group area : List ℕ) {answer : Outcome Answer} {table : List ℕ}
     {result : ℤ} (P : CheckPromise order rows coefficients (length group) answer table)
     (R : Reports answer (length area) result area) where
   -- how the lent call ends
@@ -536,13 +536,13 @@ module _ (order : Order) (rows coefficients : List ℤ) (group area : List ℕ) 
               count = p.0;
               sums = p.1;
               kept = subst⁻¹ (λ (x : List ℕ). CheckPassed order rows coefficients (length group) x p.0 p.1) g C;
-              returned = subst (λ (a : Answer). Returned a result area) p.2 r;
+              returned = subst (λ (a : Outcome Answer). Returned a result area) p.2 r;
             };
             passes = (
               λ e. record {
                 rules = C.kept;
                 whole = C.whole;
-                roomy = subst (λ (a : Answer). length (counts_of a) ≤ length area) p.2 room;
+                roomy = subst (λ (a : Outcome Answer). length (counts_of a) ≤ length area) p.2 room;
               },
               may-pass,
             );

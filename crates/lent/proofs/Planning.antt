@@ -1,5 +1,7 @@
 -- THE BEST PLAN FOR C keeps its promise (Specification 1.1, 3.10, 7.4 and 11): the plan with its counts, or zeros in
 -- every area. Assumes nothing.
+use Rattle.std.specs.declared.result.Result.TheVariants.{Err}
+use Rattle.definitions.specs.Refusals.{Fault, no_fault}
 use mathlib.Core.Path.{◌≡◌, refl, sym, ap, subst, ◌∙◌}
 use mathlib.Core.Bool.{true, false, true≢false}
 use mathlib.Core.List.{List, []}
@@ -9,11 +11,8 @@ use borrow.Author.Tests.{not-false}
 use lib.IntN.{ℤ, pos, negsuc}
 use lib.Signed.{non_neg}
 use lib.ListN.{length, get_or}
-use Rattle.definitions.specs.declared.Answer.TheVariants as variants
-use Rattle.definitions.specs.declared.Fault.{Fault}
-use Rattle.definitions.specs.declared.Fault.TheVariants.{None, At}
 use Rattle.definitions.specs.declared.Planned.{Planned}
-use Rattle.definitions.specs.declared.Planned.TheVariants.{Cheapest, Spent, Refused}
+use Rattle.definitions.specs.declared.Planned.TheVariants.{Cheapest, Spent}
 use Rattle.definitions.specs.declared.Terms.{Terms}
 use Rattle.definitions.specs.Limits.{cells}
 use Rattle.definitions.specs.Orbit.{orbits}
@@ -44,10 +43,10 @@ abbrev Tellable : (number place : ℕ) → Type 0
 Tellable number place = (1 ≤ number) × (refusal_code number place < 2 ^ 63)
 
 -- an answer that a result can tell
-abbrev TellablePlan : Planned → Type 0
-TellablePlan (Cheapest steps rows members stored sums) = steps < 2 ^ 63
-TellablePlan (Spent steps bound rows members stored sums) = steps < 2 ^ 63
-TellablePlan (Refused number place) = Tellable number place
+abbrev TellablePlan : Outcome Planned → Type 0
+TellablePlan (accepted (Cheapest steps rows members stored sums)) = steps < 2 ^ 63
+TellablePlan (accepted (Spent steps bound rows members stored sums)) = steps < 2 ^ 63
+TellablePlan (Err r) = Tellable r.number r.place
 
 module _ (n : ℕ) (problem : Problem) (plan_size : ℕ) where
   -- the places of 26 and 27 are cells
@@ -76,8 +75,8 @@ module _ (order : Order) (problem : Problem) (room : PlanRoom) where
     tested : (fault : Fault) → problem_fault order.n problem room.plan ≡ fault → Said Tellable fault
         → TellablePlan (descended_end order.n problem room found fault).answer
     unfolding descended_end plan_reached plan_refused
-    tested (At number place) f h = h.said
-    tested None f h =
+    tested (Err r) f h = h.said
+    tested no_fault f h =
         let S = problem-sound order.n problem room.plan f in
         let few = descent-few facts problem S.sized.start S.begins in
         planned-told _ found _ (omega (arith, few, S.sized.few))
@@ -89,8 +88,8 @@ module _ (order : Order) (problem : Problem) (room : PlanRoom) where
     where
       go : (o : Outcome Listing) → listing order room.list room.group ≡ o
           → TellablePlan (plan_of order.n problem room o).answer
-      go (refused number place) e =
-          let r = list-reported order room.list room.group number place e in (r.some, refusal-fits r)
+      go (Err q) e =
+          let r = list-reported order room.list room.group q.number q.place e in (r.some, refusal-fits r)
       go (accepted found) e =
           tested found e (problem_fault order.n problem room.plan) refl
           (tests-told order.n problem room.plan (facts found e).symmetric.fits)
@@ -98,13 +97,13 @@ module _ (order : Order) (problem : Problem) (room : PlanRoom) where
 -- ---- the call
 
 -- the same sizes, said otherwise
-pub plan-sized : {order : Order} {problem : Problem} {l l' g g' p p' : ℕ} {answer : Planned}
+pub plan-sized : {order : Order} {problem : Problem} {l l' g g' p p' : ℕ} {answer : Outcome Planned}
     {list : List ℤ} {group : List ℕ} {plan : List ℤ} → l ≡ l' → g ≡ g' → p ≡ p'
     → PlanPromise order problem (record { list = l; group = g; plan = p }) answer list group plan
     → PlanPromise order problem (record { list = l'; group = g'; plan = p' }) answer list group plan
 plan-sized e f h P = rw (← e, ← f, ← h) P
 
-module _ {order : Order} {problem : Problem} {room : PlanRoom} {answer : Planned} {list : List ℤ} {group : List ℕ}
+module _ {order : Order} {problem : Problem} {room : PlanRoom} {answer : Outcome Planned} {list : List ℤ} {group : List ℕ}
     {plan : List ℤ} (P : PlanPromise order problem room answer list group plan) where
   tellable : TellablePlan answer
   tellable = subst TellablePlan (sym P.answer_is) (plan-tellable order problem room)
@@ -113,10 +112,10 @@ module _ {order : Order} {problem : Problem} {room : PlanRoom} {answer : Planned
   pub plan-small : PlanSmall answer
   plan-small = go answer tellable
     where
-      go : (a : Planned) → TellablePlan a → PlanSmall a
-      go (Cheapest steps rows members stored sums) h = h
-      go (Spent steps bound rows members stored sums) h = h
-      go (Refused number place) h = h.1
+      go : (a : Outcome Planned) → TellablePlan a → PlanSmall a
+      go (accepted (Cheapest steps rows members stored sums)) h = h
+      go (accepted (Spent steps bound rows members stored sums)) h = h
+      go (Err r) h = h.1
 
 module _ (order : Order) (problem : Problem) (list : List ℤ) (group : List ℕ) (plan : List ℤ) (counts : List ℕ)
     (result : ℤ) where
@@ -127,53 +126,53 @@ module _ (order : Order) (problem : Problem) (list : List ℤ) (group : List ℕ
   end = plan_call order problem areas
 
   -- it can be told
-  module _ {answer : Planned} (P : PlanPromise order problem areas answer list group plan)
+  module _ {answer : Outcome Planned} (P : PlanPromise order problem areas answer list group plan)
       (told : is_plan_told answer (length counts) ≡ true) (R : PlanReports answer (length counts) result counts) where
     due : end ≡ lent_plan order problem areas (length counts)
     unfolding lent_plan
     due =
-        let same = ap (λ (a : Planned). is_plan_told a (length counts)) (sym P.answer_is) in
+        let same = ap (λ (a : Outcome Planned). is_plan_told a (length counts)) (sym P.answer_is) in
         let e : is_plan_told end.answer (length counts) ≡ true = same ∙ told in
         rw e refl
 
     -- the counts of the answer, said otherwise
-    counts_of : {a : Planned} → answer ≡ a → counts ≡ filled 0 (length counts) (plan_counts a)
-    counts_of e = R.counts_hold ∙ ap (λ (a : Planned). filled 0 (length counts) (plan_counts a)) e
+    counts_of : {a : Outcome Planned} → answer ≡ a → counts ≡ filled 0 (length counts) (plan_counts a)
+    counts_of e = R.counts_hold ∙ ap (λ (a : Outcome Planned). filled 0 (length counts) (plan_counts a)) e
 
-    result-of : {a : Planned} → answer ≡ a → result ≡ plan_result a
+    result-of : {a : Outcome Planned} → answer ≡ a → result ≡ plan_result a
     result-of e = R.results ∙ ap plan_result e
 
-    returned-of : {a : Planned} → answer ≡ a → PlanReturned a result counts
+    returned-of : {a : Outcome Planned} → answer ≡ a → PlanReturned a result counts
     returned-of e = record { results = result-of e; counts_hold = counts_of e }
 
     -- a refusal is no number of steps
-    steps-not : {X : Type 0} {number place k : ℕ} → answer ≡ Refused number place → result ≡ pos k → X
+    steps-not : {X : Type 0} {number place k : ℕ} → answer ≡ refused number place → result ≡ pos k → X
     steps-not {number = number} {place} {k} e h =
         refusal-negative number place k (subst TellablePlan e (tellable P)).0 (sym (result-of e) ∙ h)
 
     -- what each answer says
-    reaches : (a : Planned) → answer ≡ a → (k : ℕ) → result ≡ pos k → get_or counts 1 0 ≡ 1
+    reaches : (a : Outcome Planned) → answer ≡ a → (k : ℕ) → result ≡ pos k → get_or counts 1 0 ≡ 1
         → CheapestGiven order problem result list group plan counts
     unfolding filled
-    reaches (Cheapest steps rows members stored sums) e k h one =
+    reaches (accepted (Cheapest steps rows members stored sums)) e k h one =
         record { answer = answer; kept = P.cheapest steps rows members stored sums e; returned = returned-of refl }
-    reaches (Spent steps bound rows members stored sums) e k h one =
+    reaches (accepted (Spent steps bound rows members stored sums)) e k h one =
         let z : ◌≡◌ {A = ℕ} 0 1 = sym (ap (λ (l : List ℕ). get_or l 1 0) (counts_of e)) ∙ one in absurd (omega arith)
-    reaches (Refused number place) e k h one = steps-not e h
+    reaches (Err r) e k h one = steps-not e h
 
-    spends : (a : Planned) → answer ≡ a → (k : ℕ) → result ≡ pos k → get_or counts 1 0 ≡ 0
+    spends : (a : Outcome Planned) → answer ≡ a → (k : ℕ) → result ≡ pos k → get_or counts 1 0 ≡ 0
         → SpentGiven order problem result list group plan counts
     unfolding filled
-    spends (Cheapest steps rows members stored sums) e k h none =
+    spends (accepted (Cheapest steps rows members stored sums)) e k h none =
         let z : ◌≡◌ {A = ℕ} 1 0 = sym (ap (λ (l : List ℕ). get_or l 1 0) (counts_of e)) ∙ none in absurd (omega arith)
-    spends (Spent steps bound rows members stored sums) e k h none =
+    spends (accepted (Spent steps bound rows members stored sums)) e k h none =
         record { answer = answer; kept = P.spent steps bound rows members stored sums e; returned = returned-of refl }
-    spends (Refused number place) e k h none = steps-not e h
+    spends (Err r) e k h none = steps-not e h
 
-    refuses : (a : Planned) → answer ≡ a → (k : ℕ) → result ≡ negsuc k → PlanZero list group plan × CountsZero counts
-    refuses (Cheapest steps rows members stored sums) e k h = absurd (true≢false (ap non_neg (sym (result-of e) ∙ h)))
-    refuses (Spent steps bound rows members stored sums) e k h = absurd (true≢false (ap non_neg (sym (result-of e) ∙ h)))
-    refuses (Refused number place) e k h = (P.refused number place e, no-counts (counts_of e))
+    refuses : (a : Outcome Planned) → answer ≡ a → (k : ℕ) → result ≡ negsuc k → PlanZero list group plan × CountsZero counts
+    refuses (accepted (Cheapest steps rows members stored sums)) e k h = absurd (true≢false (ap non_neg (sym (result-of e) ∙ h)))
+    refuses (accepted (Spent steps bound rows members stored sums)) e k h = absurd (true≢false (ap non_neg (sym (result-of e) ∙ h)))
+    refuses (Err r) e k h = (P.refused r.number r.place e, no-counts (counts_of e))
 
     pub plan-told : PlanLent order problem result list group plan counts
     plan-told = record {
@@ -187,17 +186,17 @@ module _ (order : Order) (problem : Problem) (list : List ℤ) (group : List ℕ
     }
 
   -- it cannot: zeros in every area
-  module _ {answer : Planned} (is : answer ≡ end.answer) (untold : is_plan_told answer (length counts) ≡ false)
-      (R : Reports (variants.Refused 6 0) (length counts) result counts) (l : list ≡ filled (pos 0) (length list) [])
+  module _ {answer : Outcome Planned} (is : answer ≡ end.answer) (untold : is_plan_told answer (length counts) ≡ false)
+      (R : Reports (refused 6 0) (length counts) result counts) (l : list ≡ filled (pos 0) (length list) [])
       (g : group ≡ filled 0 (length group) []) (p : plan ≡ filled (pos 0) (length plan) []) where
     ends : plan_refused areas 6 0 ≡ lent_plan order problem areas (length counts)
     unfolding lent_plan
     ends =
-        let same = ap (λ (a : Planned). is_plan_told a (length counts)) (sym is) in
+        let same = ap (λ (a : Outcome Planned). is_plan_told a (length counts)) (sym is) in
         let e : is_plan_told end.answer (length counts) ≡ false = same ∙ untold in
         rw e refl
 
-    returns : Returned (variants.Refused 6 0) result counts
+    returns : Returned (refused 6 0) result counts
     returns = returned-refusal R refl
 
     pub plan-untold : PlanLent order problem result list group plan counts

@@ -1,4 +1,5 @@
 -- What a call reports of an answer (Specification 1.1 and 9.4). Assumes nothing.
+use Rattle.definitions.specs.Refusals.{Outcome, refused}
 use Rattle.std.specs.Prelude.{if◌then◌else◌}
 use mathlib.Core.Path.{◌≡◌, refl, sym, ap, ◌∙◌, subst}
 use mathlib.Core.Bool.{Bool, true, false}
@@ -10,7 +11,6 @@ use lib.Dec.{leb}
 use lib.IntN.{ℤ, pos}
 use lib.ListN.{length, get_or}
 use Rattle.definitions.specs.declared.Answer.{Answer}
-use Rattle.definitions.specs.declared.Answer.TheVariants.{Refused}
 use Rattle.definitions.specs.Lent.{filled}
 use Rattle.answers.specs.Refusal.{refusal_of}
 use Rattle.lent.specs.Ends.{Gives, Reports, counted, counts_of, if_roomy, result_of}
@@ -37,7 +37,7 @@ gives_none numbers size h e f = record {
 -- ---- answers that are reported
 
 -- the counts of an answer are given
-pub reports-given : (answer : Answer) {size : ℕ} {result : ℤ} {counts : List ℕ}
+pub reports-given : (answer : Outcome Answer) {size : ℕ} {result : ℤ} {counts : List ℕ}
     → result_of answer ≡ pos (get_or (counts_of answer) 0 0) → Gives (counts_of answer) size result counts
     → Reports answer size result counts
 unfolding if_roomy
@@ -47,17 +47,17 @@ reports-given answer {size} e G = record {
 }
   where
     first : (b : Bool)
-        → (if b then pos (get_or (counts_of answer) 0 0) else refusal_of 6 0) ≡ result_of (if b then answer else Refused 6 0)
+        → (if b then pos (get_or (counts_of answer) 0 0) else refusal_of 6 0) ≡ result_of (if b then answer else refused 6 0)
     first true = sym e
     first false = refl
 
-    all : (b : Bool) → (if b then counts_of answer else []) ≡ counts_of (if b then answer else Refused 6 0)
+    all : (b : Bool) → (if b then counts_of answer else []) ≡ counts_of (if b then answer else refused 6 0)
     all true = refl
     all false = refl
 
 -- a refusal
 pub reports-refused : {number place size : ℕ} {result : ℤ} {counts : List ℕ} → result ≡ refusal_of number place
-    → counts ≡ filled 0 size [] → Reports (Refused number place) size result counts
+    → counts ≡ filled 0 size [] → Reports (refused number place) size result counts
 unfolding if_roomy
 reports-refused {size = size} e f = record {
   results = rw (le-leb 0 size (omega arith)) e;
@@ -65,24 +65,24 @@ reports-refused {size = size} e f = record {
 }
 
 -- the same answer, said otherwise
-pub reports-as : {answer answer' : Answer} {size : ℕ} {result : ℤ} {counts : List ℕ} → answer ≡ answer'
+pub reports-as : {answer answer' : Outcome Answer} {size : ℕ} {result : ℤ} {counts : List ℕ} → answer ≡ answer'
     → Reports answer' size result counts → Reports answer size result counts
-reports-as {size = size} {result} {counts} e R = subst (λ (a : Answer). Reports a size result counts) (sym e) R
+reports-as {size = size} {result} {counts} e R = subst (λ (a : Outcome Answer). Reports a size result counts) (sym e) R
 
 -- the same result, and the same size, said otherwise
-pub reports-result : {answer : Answer} {size size' : ℕ} {result result' : ℤ} {counts : List ℕ} → size ≡ size'
+pub reports-result : {answer : Outcome Answer} {size size' : ℕ} {result result' : ℤ} {counts : List ℕ} → size ≡ size'
     → result' ≡ result → Reports answer size result counts → Reports answer size' result' counts
 reports-result {answer} {result' = result'} {counts} e f R =
     subst (λ (k : ℕ). Reports answer k result' counts) e
     (record { results = f ∙ R.results; counts_hold = R.counts_hold })
 
 -- ---- what was returned
-module _ {answer : Answer} {result : ℤ} {counts : List ℕ} (R : Reports answer (length counts) result counts) where
+module _ {answer : Outcome Answer} {result : ℤ} {counts : List ℕ} (R : Reports answer (length counts) result counts) where
   -- the answer that was made
-  returned-as : {made : Answer} → counted answer (length counts) ≡ made → Returned made result counts
+  returned-as : {made : Outcome Answer} → counted answer (length counts) ≡ made → Returned made result counts
   returned-as e = record {
     results = R.results ∙ ap result_of e;
-    counts_hold = R.counts_hold ∙ ap (λ (a : Answer). filled 0 (length counts) (counts_of a)) e;
+    counts_hold = R.counts_hold ∙ ap (λ (a : Outcome Answer). filled 0 (length counts) (counts_of a)) e;
   }
 
   -- with room
@@ -91,12 +91,12 @@ module _ {answer : Answer} {result : ℤ} {counts : List ℕ} (R : Reports answe
   returned-all e = returned-as (rw e)
 
   -- without
-  pub returned-none : leb (length (counts_of answer)) (length counts) ≡ false → Returned (Refused 6 0) result counts
+  pub returned-none : leb (length (counts_of answer)) (length counts) ≡ false → Returned (refused 6 0) result counts
   unfolding if_roomy
   returned-none e = returned-as (rw e)
 
   -- a refusal is returned as it is
-  pub returned-refusal : {number place : ℕ} → answer ≡ Refused number place
-      → Returned (Refused number place) result counts
+  pub returned-refusal : {number place : ℕ} → answer ≡ refused number place
+      → Returned (refused number place) result counts
   returned-refusal e =
-      subst (λ (a : Answer). Returned a result counts) e (returned-all (rw e (le-leb 0 (length counts) (omega arith))))
+      subst (λ (a : Outcome Answer). Returned a result counts) e (returned-all (rw e (le-leb 0 (length counts) (omega arith))))

@@ -1,12 +1,13 @@
 -- SESSION FOR C keeps its promise (Specification 1.1, 3.8, 7.4 and 11): ten counts, or zeros in every area. Assumes
 -- nothing.
+use Rattle.std.specs.declared.result.Result.TheVariants.{Err}
+use Rattle.definitions.specs.Refusals.{Outcome, accepted, refused}
 use mathlib.Core.Path.{◌≡◌, refl, ap, ap₂, ◌∙◌, subst}
 use mathlib.Core.List.{List, [], ◌∷◌, ◌++◌}
 use Prim.Native.Nat.{ℕ, ◌≤◌, ◌<◌}
 use native.Mathlib.Omega.{arith}
 use lib.IntN.{ℤ, pos}
 use lib.ListN.{length, get_or, replicate}
-use Rattle.definitions.specs.declared.Answer.TheVariants.{Refused}
 use Rattle.definitions.specs.declared.Ending.{Ending}
 use Rattle.definitions.specs.declared.Ending.TheVariants as ending
 use Rattle.definitions.specs.declared.Session.{Session}
@@ -24,10 +25,10 @@ abbrev five_of : List ℕ → List ℕ
 five_of a = get_or a 0 0 ∷ get_or a 1 0 ∷ get_or a 2 0 ∷ get_or a 3 0 ∷ get_or a 4 0 ∷ []
 
 -- an end has no more
-five-all : (end : Ending) → five_of (ending_counts end) ≡ ending_counts end
-five-all (ending.Moves rows members stored sums) = refl
-five-all (ending.Unfinished sums) = refl
-five-all (ending.Refused number place) = refl
+five-all : (end : Outcome Ending) → five_of (ending_counts end) ≡ ending_counts end
+five-all (accepted (ending.Moves rows members stored sums)) = refl
+five-all (accepted (ending.Unfinished sums)) = refl
+five-all (Err r) = refl
 
 -- so the ten numbers of two ends are the counts of the session
 pub ten-all : (answer : Session) {a b : List ℕ} → a ≡ ending_counts answer.first → b ≡ ending_counts answer.second
@@ -35,10 +36,10 @@ pub ten-all : (answer : Session) {a b : List ℕ} → a ≡ ending_counts answer
 ten-all answer e f = ap₂ ◌++◌ (ap five_of e ∙ five-all answer.first) (ap five_of f ∙ five-all answer.second)
 
 -- an order is finished at most once
-pub finished-most : (end : Ending) → finished_in end ≤ 1
-finished-most (ending.Moves rows members stored sums) = omega arith
-finished-most (ending.Unfinished sums) = omega arith
-finished-most (ending.Refused number place) = omega arith
+pub finished-most : (end : Outcome Ending) → finished_in end ≤ 1
+finished-most (accepted (ending.Moves rows members stored sums)) = omega arith
+finished-most (accepted (ending.Unfinished sums)) = omega arith
+finished-most (Err r) = omega arith
 
 -- ---- the call
 
@@ -63,7 +64,7 @@ module _ (first second : Order) (steps : List ℕ) (list : List ℤ) (group coun
   }
 
   -- without
-  pub session-short : length counts < session_size → Reports (Refused 6 0) (length counts) result counts
+  pub session-short : length counts < session_size → Reports (refused 6 0) (length counts) result counts
       → list ≡ replicate (length list) (pos 0) → group ≡ replicate (length group) 0
       → SessionLent first second steps result list group counts
   session-short h R l g =

@@ -1,5 +1,7 @@
 -- THE WINDOW FOR C keeps its promise (Specification 1.1, 3.9, 7.4 and 11): the run with its counts, or zeros in every area.
 -- Assumes nothing.
+use Rattle.std.specs.declared.result.Result.TheVariants.{Err}
+use Rattle.definitions.specs.Refusals.{Fault, no_fault}
 use Rattle.std.specs.Prelude.{if◌then◌else◌}
 use mathlib.Core.Path.{◌≡◌, refl, sym, ap, subst, ◌∙◌}
 use mathlib.Core.Bool.{Bool, true, false, true≢false}
@@ -10,11 +12,7 @@ use lib.Dec.{eqb}
 use lib.IntN.{ℤ, pos, negsuc}
 use lib.Signed.{non_neg}
 use lib.ListN.{length}
-use Rattle.definitions.specs.declared.Answer.TheVariants as answer
-use Rattle.definitions.specs.declared.Fault.{Fault}
-use Rattle.definitions.specs.declared.Fault.TheVariants.{None, At}
 use Rattle.definitions.specs.declared.Run.{Run}
-use Rattle.definitions.specs.declared.Run.TheVariants.{Answered, Refused}
 use Rattle.definitions.specs.Limits.{record_width}
 use Rattle.definitions.specs.Lists.{concat}
 use Rattle.definitions.specs.Vector.{padded}
@@ -38,9 +36,14 @@ use Rattle.lent.proofs.Reporting.{returned-refusal}
 abbrev Low : (number place : ℕ) → Type 0
 Low number place = (1 ≤ number) × (number < place_factor)
 
-abbrev LowRun : Run → Type 0
-LowRun (Answered records rows members stored sums) = Unit {0}
-LowRun (Refused number place) = Low number place
+-- the records that a run answers
+abbrev records_of : Outcome Run → ℕ
+records_of (accepted run) = run.records
+records_of (Err r) = 0
+
+abbrev LowRun : Outcome Run → Type 0
+LowRun (accepted run) = Unit {0}
+LowRun (Err r) = Low r.number r.place
 
 tests-low : (n : ℕ) (chain : Chain) (size : ℕ) → Said Low (chain_fault n chain size)
 unfolding chain_fault
@@ -61,13 +64,13 @@ window-low order chain room = go (listing order room.list room.group) refl
         chosen false = (omega arith, omega arith)
 
     tested : (found : Listing) (fault : Fault) → Said Low fault → LowRun (drawn_end order.n chain room found fault).answer
-    tested found (At number place) h = h.said
-    tested found None h =
+    tested found (Err r) h = h.said
+    tested found no_fault h =
         let draws = draws_of chain.records in
         drawn found (length draws) (answer_rows (record { n = order.n; width = chain.width; cell = chain.cell }) [] (visits found.table found.rows (padded chain.start) draws))
 
     go : (o : Outcome Listing) → listing order room.list room.group ≡ o → LowRun (window_of order.n chain room o).answer
-    go (refused number place) e = let r = list-reported order room.list room.group number place e in (r.some, number-low r)
+    go (Err q) e = let r = list-reported order room.list room.group q.number q.place e in (r.some, number-low r)
     go (accepted found) e = tested found (chain_fault order.n chain room.answers) (tests-low order.n chain room.answers)
 
 -- ---- the call
@@ -77,11 +80,11 @@ pub sizes-same : {l l' g g' a a' : ℕ} → l ≡ l' → g ≡ g' → a ≡ a' �
 sizes-same {l' = l} {g} {g'} {a} p q r =
     ap (λ (k : ℕ). record { list = k; group = g; answers = a }) p ∙ ap (λ (k : ℕ). record { list = l; group = k; answers = a }) q ∙ ap (λ (k : ℕ). record { list = l; group = g'; answers = k }) r
 
-pub window-sized : {order : Order} {chain : Chain} {room room' : Room} {run : Run} {list : List ℤ} {group : List ℕ} {answers : List ℤ} → room ≡ room'
+pub window-sized : {order : Order} {chain : Chain} {room room' : Room} {run : Outcome Run} {list : List ℤ} {group : List ℕ} {answers : List ℤ} → room ≡ room'
     → WindowPromise order chain room run list group answers → WindowPromise order chain room' run list group answers
 window-sized {order} {chain} {run = run} {list} {group} {answers} e P = subst (λ (r : Room). WindowPromise order chain r run list group answers) e P
 
-module _ {order : Order} {chain : Chain} {room : Room} {run : Run} {list : List ℤ} {group : List ℕ} {answers : List ℤ} (P : WindowPromise order chain room run list group answers) where
+module _ {order : Order} {chain : Chain} {room : Room} {run : Outcome Run} {list : List ℤ} {group : List ℕ} {answers : List ℤ} (P : WindowPromise order chain room run list group answers) where
   low : LowRun run
   low = subst LowRun (sym P.answer_is) (window-low order chain room)
 
@@ -89,12 +92,12 @@ module _ {order : Order} {chain : Chain} {room : Room} {run : Run} {list : List 
   pub run_small : length chain.records < 2 ^ 64 → RunSmall run
   run_small h = go run refl
     where
-      go : (r : Run) → run ≡ r → RunSmall r
-      go (Answered records rows members stored sums) e =
-          let says = sym (P.accepted records rows members stored sums e).says ∙ e in
-          let count : length chain.records / record_width ≡ records = cc says in
+      go : (r : Outcome Run) → run ≡ r → RunSmall r
+      go (accepted done) e =
+          let says = sym (P.accepted done e).says ∙ e in
+          let count : length chain.records / record_width ≡ done.records = ap records_of says in
           omega (arith, count, h)
-      go (Refused number place) e = (subst LowRun e low).1
+      go (Err r) e = (subst LowRun e low).1
 
 -- zeros alone in the counts area
 pub no-counts : {counts : List ℕ} → counts ≡ filled 0 (length counts) [] → CountsZero counts
@@ -108,42 +111,42 @@ module _ (order : Order) (chain : Chain) (list : List ℤ) (group : List ℕ) (a
   end = window_call order chain areas
 
   -- it can be told
-  module _ {run : Run} (P : WindowPromise order chain areas run list group answers) (told : is_told run (length counts) ≡ true) (R : RunReports run (length counts) result counts) where
+  module _ {run : Outcome Run} (P : WindowPromise order chain areas run list group answers) (told : is_told run (length counts) ≡ true) (R : RunReports run (length counts) result counts) where
     due : end ≡ lent_window order chain areas (length counts)
     unfolding lent_window
-    due = let e : is_told end.answer (length counts) ≡ true = ap (λ (r : Run). is_told r (length counts)) (sym P.answer_is) ∙ told in rw e refl
+    due = let e : is_told end.answer (length counts) ≡ true = ap (λ (r : Outcome Run). is_told r (length counts)) (sym P.answer_is) ∙ told in rw e refl
 
     same : run ≡ (lent_window order chain areas (length counts)).answer
     same = P.answer_is ∙ ap (λ (x : WindowEnd). x.answer) due
 
     -- what each run says
-    accepts : (r : Run) → run ≡ r → (k : ℕ) → result ≡ pos k → WindowGiven order chain result list group answers counts
-    accepts (Answered records rows members stored sums) e k h = record {
+    accepts : (r : Outcome Run) → run ≡ r → (k : ℕ) → result ≡ pos k → WindowGiven order chain result list group answers counts
+    accepts (accepted done) e k h = record {
       answer = run;
-      kept = P.accepted records rows members stored sums e;
+      kept = P.accepted done e;
       returned = record { results = R.results; counts_hold = R.counts_hold };
     }
-    accepts (Refused number place) e k h =
-        refusal-negative number place k (subst LowRun e (low P)).0 (sym (R.results ∙ ap run_result e) ∙ h)
+    accepts (Err r) e k h =
+        refusal-negative r.number r.place k (subst LowRun e (low P)).0 (sym (R.results ∙ ap run_result e) ∙ h)
 
-    stays : (r : Run) → run ≡ r → (place : ℕ) → result ≡ refusal_of 25 place → RecordRefused order chain place list group answers × CountsZero counts
-    stays (Answered records rows members stored sums) e place h = refusal-negative 25 place records (omega arith) (sym h ∙ R.results ∙ ap run_result e)
-    stays (Refused number at) e place h =
-        let is = refusal-says number at 25 place (subst LowRun e (low P)).1 (omega arith) (sym (R.results ∙ ap run_result e) ∙ h) in (
-          P.record_refused place (e ∙ ap (λ (m : ℕ). Refused m at) is.0 ∙ ap (Refused 25) is.1),
-          no-counts (R.counts_hold ∙ ap (λ (x : Run). filled 0 (length counts) (run_counts x)) e),
+    stays : (r : Outcome Run) → run ≡ r → (place : ℕ) → result ≡ refusal_of 25 place → RecordRefused order chain place list group answers × CountsZero counts
+    stays (accepted done) e place h = refusal-negative 25 place done.records (omega arith) (sym h ∙ R.results ∙ ap run_result e)
+    stays (Err r) e place h =
+        let is = refusal-says r.number r.place 25 place (subst LowRun e (low P)).1 (omega arith) (sym (R.results ∙ ap run_result e) ∙ h) in (
+          P.record_refused place (e ∙ ap (λ (m : ℕ). refused m r.place) is.0 ∙ ap (refused 25) is.1),
+          no-counts (R.counts_hold ∙ ap (λ (x : Outcome Run). filled 0 (length counts) (run_counts x)) e),
         )
 
-    refuses : (r : Run) → run ≡ r → (k : ℕ) → result ≡ negsuc k → ((place : ℕ) → ¬ (result ≡ refusal_of 25 place)) → WindowZero list group answers × CountsZero counts
-    refuses (Answered records rows members stored sums) e k h other = absurd (true≢false (ap non_neg (sym (R.results ∙ ap run_result e) ∙ h)))
-    refuses (Refused number place) e k h other = (
-      P.refused number place e (λ q. other place (R.results ∙ ap run_result e ∙ ap (λ (m : ℕ). refusal_of m place) q)),
-      no-counts (R.counts_hold ∙ ap (λ (x : Run). filled 0 (length counts) (run_counts x)) e),
+    refuses : (r : Outcome Run) → run ≡ r → (k : ℕ) → result ≡ negsuc k → ((place : ℕ) → ¬ (result ≡ refusal_of 25 place)) → WindowZero list group answers × CountsZero counts
+    refuses (accepted done) e k h other = absurd (true≢false (ap non_neg (sym (R.results ∙ ap run_result e) ∙ h)))
+    refuses (Err r) e k h other = (
+      P.refused r.number r.place e (λ q. other r.place (R.results ∙ ap run_result e ∙ ap (λ (m : ℕ). refusal_of m r.place) q)),
+      no-counts (R.counts_hold ∙ ap (λ (x : Outcome Run). filled 0 (length counts) (run_counts x)) e),
     )
 
     pub window-told : WindowLent order chain result list group answers counts
     window-told = record {
-      returned = record { results = R.results ∙ ap run_result same; counts_hold = R.counts_hold ∙ ap (λ (r : Run). filled 0 (length counts) (run_counts r)) same };
+      returned = record { results = R.results ∙ ap run_result same; counts_hold = R.counts_hold ∙ ap (λ (r : Outcome Run). filled 0 (length counts) (run_counts r)) same };
       list_holds = P.list_holds ∙ ap (λ (x : WindowEnd). x.list) due;
       group_holds = P.group_holds ∙ ap (λ (x : WindowEnd). x.group) due;
       answers_hold = P.answers_hold ∙ ap (λ (x : WindowEnd). x.answers) due;
@@ -153,13 +156,13 @@ module _ (order : Order) (chain : Chain) (list : List ℤ) (group : List ℕ) (a
     }
 
   -- it cannot: zeros in every area
-  module _ {run : Run} (is : run ≡ end.answer) (untold : is_told run (length counts) ≡ false) (R : Reports (answer.Refused 6 0) (length counts) result counts)
+  module _ {run : Outcome Run} (is : run ≡ end.answer) (untold : is_told run (length counts) ≡ false) (R : Reports (refused 6 0) (length counts) result counts)
       (l : list ≡ filled (pos 0) (length list) []) (g : group ≡ filled 0 (length group) []) (a : answers ≡ filled (pos 0) (length answers) []) where
     ends : window_refused areas 6 0 [] ≡ lent_window order chain areas (length counts)
     unfolding lent_window
-    ends = let e : is_told end.answer (length counts) ≡ false = ap (λ (r : Run). is_told r (length counts)) (sym is) ∙ untold in rw e refl
+    ends = let e : is_told end.answer (length counts) ≡ false = ap (λ (r : Outcome Run). is_told r (length counts)) (sym is) ∙ untold in rw e refl
 
-    returns : Returned (answer.Refused 6 0) result counts
+    returns : Returned (refused 6 0) result counts
     returns = returned-refusal R refl
 
     pub window-untold : WindowLent order chain result list group answers counts

@@ -1,14 +1,15 @@
 -- How a lent call for C ends (Specification 1.1 and 9.4): its result, and its counts in an area. Assumes nothing.
+use Rattle.definitions.specs.Refusals.{Outcome, accepted}
+use Rattle.std.specs.declared.result.Result.TheVariants.{Err}
+use Rattle.definitions.specs.Refusals.{fault_at}
 use Rattle.std.specs.Prelude.{◌≡◌, Bool, List, [], ◌∷◌, ◌++◌, ℕ, ◌+◌, ◌<◌, ◌^◌, leb, ltb, ℤ, pos, length, get_or, if◌then◌else◌}
 use Rattle.definitions.specs.declared.Answer.{Answer}
-use Rattle.definitions.specs.declared.Answer.TheVariants.{Moves, Split, Passed, Refused}
+use Rattle.definitions.specs.declared.Answer.TheVariants.{Moves, Split, Passed}
 use Rattle.definitions.specs.declared.Ending.{Ending}
 use Rattle.definitions.specs.declared.Ending.TheVariants as ending
-use Rattle.definitions.specs.declared.Fault.TheVariants.{At}
 use Rattle.definitions.specs.declared.Planned.{Planned}
 use Rattle.definitions.specs.declared.Planned.TheVariants as planned
 use Rattle.definitions.specs.declared.Run.{Run}
-use Rattle.definitions.specs.declared.Run.TheVariants as run
 use Rattle.definitions.specs.declared.Session.{Session}
 use Rattle.definitions.specs.Lent.{Order, filled}
 use Rattle.definitions.specs.Refusals.{refused}
@@ -20,33 +21,33 @@ use Rattle.definitions.specs.Plan.{PlanEnd, PlanRoom, Problem, plan_call, plan_r
 use Rattle.answers.specs.Refusal.{place_factor, refusal_code, refusal_of}
 
 -- 1.1: the counts of an answer; a refusal has none
-abbrev pub counts_of : Answer → List ℕ
-counts_of (Moves rows members stored sums) = rows ∷ members ∷ stored ∷ sums ∷ []
-counts_of (Split pieces rows members stored sums) = pieces ∷ rows ∷ members ∷ stored ∷ sums ∷ []
-counts_of (Passed rows sums) = rows ∷ sums ∷ []
-counts_of (Refused number place) = []
+abbrev pub counts_of : Outcome Answer → List ℕ
+counts_of (accepted (Moves rows members stored sums)) = rows ∷ members ∷ stored ∷ sums ∷ []
+counts_of (accepted (Split pieces rows members stored sums)) = pieces ∷ rows ∷ members ∷ stored ∷ sums ∷ []
+counts_of (accepted (Passed rows sums)) = rows ∷ sums ∷ []
+counts_of (Err r) = []
 
 -- the result of a call: its first count, or its refusal
-abbrev pub result_of : Answer → ℤ
-result_of (Moves rows members stored sums) = pos rows
-result_of (Split pieces rows members stored sums) = pos pieces
-result_of (Passed rows sums) = pos rows
-result_of (Refused number place) = refusal_of number place
+abbrev pub result_of : Outcome Answer → ℤ
+result_of (accepted (Moves rows members stored sums)) = pos rows
+result_of (accepted (Split pieces rows members stored sums)) = pos pieces
+result_of (accepted (Passed rows sums)) = pos rows
+result_of (Err r) = refusal_of r.number r.place
 
 -- it can be returned as a signed number of 64 bits
-abbrev pub Small : Answer → Type 0
-Small (Moves rows members stored sums) = rows < 2 ^ 63
-Small (Split pieces rows members stored sums) = pieces < 2 ^ 63
-Small (Passed rows sums) = rows < 2 ^ 63
-Small (Refused number place) = refusal_code number place < 2 ^ 63
+abbrev pub Small : Outcome Answer → Type 0
+Small (accepted (Moves rows members stored sums)) = rows < 2 ^ 63
+Small (accepted (Split pieces rows members stored sums)) = pieces < 2 ^ 63
+Small (accepted (Passed rows sums)) = rows < 2 ^ 63
+Small (Err r) = refusal_code r.number r.place < 2 ^ 63
 
 -- something, if an area of `size` numbers has room for the counts of an answer, else something else
-unfoldable pub if_roomy : {A : Type 0} → Answer → (size : ℕ) (given short : A) → A
+unfoldable pub if_roomy : {A : Type 0} → Outcome Answer → (size : ℕ) (given short : A) → A
 if_roomy answer size given short = if leb (length (counts_of answer)) size then given else short
 
 -- the answer with a counts area of `size` numbers: 6 at 0 where it is short, tested last
-abbrev pub counted : Answer → (size : ℕ) → Answer
-counted answer size = if_roomy answer size answer (Refused 6 0)
+abbrev pub counted : Outcome Answer → (size : ℕ) → Outcome Answer
+counted answer size = if_roomy answer size answer (refused 6 0)
 
 -- numbers are given: the first as the result and all in an area, or 6 at 0 and zeros alone where it is short
 pub record Gives (numbers : List ℕ) (size : ℕ) (result : ℤ) (counts : List ℕ) : Type 0 where
@@ -54,7 +55,7 @@ pub record Gives (numbers : List ℕ) (size : ℕ) (result : ℤ) (counts : List
   pub counts_hold : counts ≡ filled 0 size (if leb (length numbers) size then numbers else [])
 
 -- the answer is reported: its result, and its counts in an area, with zeros behind them
-pub record Reports (answer : Answer) (size : ℕ) (result : ℤ) (counts : List ℕ) : Type 0 where
+pub record Reports (answer : Outcome Answer) (size : ℕ) (result : ℤ) (counts : List ℕ) : Type 0 where
   pub results : result ≡ result_of (counted answer size)
   pub counts_hold : counts ≡ filled 0 size (counts_of (counted answer size))
 
@@ -77,15 +78,15 @@ lent_split order vector list_size group_size pieces_size counts_size =
 unfoldable pub lent_check : Order → (rows coefficients : List ℤ) (group_size counts_size : ℕ) → CheckEnd
 lent_check order rows coefficients group_size counts_size =
     let end = check_call order rows coefficients group_size in
-    if_roomy end.answer counts_size end (check_end group_size 0 [] (At 6 0))
+    if_roomy end.answer counts_size end (check_end group_size 0 [] (fault_at 6 0))
 
 -- ---- Session
 
 -- 3.8: how an order of a session ended, 0 finished, 1 unfinished, 2 refused, and its values; five numbers
-abbrev pub ending_counts : Ending → List ℕ
-ending_counts (ending.Moves rows members stored sums) = 0 ∷ rows ∷ members ∷ stored ∷ sums ∷ []
-ending_counts (ending.Unfinished sums) = 1 ∷ sums ∷ 0 ∷ 0 ∷ 0 ∷ []
-ending_counts (ending.Refused number place) = 2 ∷ number ∷ place ∷ 0 ∷ 0 ∷ []
+abbrev pub ending_counts : Outcome Ending → List ℕ
+ending_counts (accepted (ending.Moves rows members stored sums)) = 0 ∷ rows ∷ members ∷ stored ∷ sums ∷ []
+ending_counts (accepted (ending.Unfinished sums)) = 1 ∷ sums ∷ 0 ∷ 0 ∷ 0 ∷ []
+ending_counts (Err r) = 2 ∷ r.number ∷ r.place ∷ 0 ∷ 0 ∷ []
 
 -- the counts of a session: those of order 0, then those of order 1
 abbrev pub session_counts : Session → List ℕ
@@ -96,10 +97,10 @@ abbrev pub session_size : ℕ
 session_size = 10
 
 -- 1 for a finished order, 0 for another
-abbrev pub finished_in : Ending → ℕ
-finished_in (ending.Moves rows members stored sums) = 1
-finished_in (ending.Unfinished sums) = 0
-finished_in (ending.Refused number place) = 0
+abbrev pub finished_in : Outcome Ending → ℕ
+finished_in (accepted (ending.Moves rows members stored sums)) = 1
+finished_in (accepted (ending.Unfinished sums)) = 0
+finished_in (Err r) = 0
 
 -- the number of finished orders
 abbrev pub finished_of : Session → ℕ
@@ -108,27 +109,27 @@ finished_of answer = finished_in answer.first + finished_in answer.second
 -- ---- Window
 
 -- 3.9: the counts of a run; a refusal has none
-abbrev pub run_counts : Run → List ℕ
-run_counts (run.Answered records rows members stored sums) = records ∷ rows ∷ members ∷ stored ∷ sums ∷ []
-run_counts (run.Refused number place) = []
+abbrev pub run_counts : Outcome Run → List ℕ
+run_counts (accepted run) = run.records ∷ run.rows ∷ run.members ∷ run.stored ∷ run.sums ∷ []
+run_counts (Err r) = []
 
 -- its result: the number of its records, or its refusal
-abbrev pub run_result : Run → ℤ
-run_result (run.Answered records rows members stored sums) = pos records
-run_result (run.Refused number place) = refusal_of number place
+abbrev pub run_result : Outcome Run → ℤ
+run_result (accepted run) = pos run.records
+run_result (Err r) = refusal_of r.number r.place
 
 -- it can be returned as a signed number of 64 bits, if its place is below 2 ^ 58
-abbrev pub RunSmall : Run → Type 0
-RunSmall (run.Answered records rows members stored sums) = records < 2 ^ 63
-RunSmall (run.Refused number place) = number < place_factor
+abbrev pub RunSmall : Outcome Run → Type 0
+RunSmall (accepted run) = run.records < 2 ^ 63
+RunSmall (Err r) = r.number < place_factor
 
 -- it can be told with a counts area of `size` numbers: there is room for its counts, or its refusal fits into a result
-abbrev pub is_told : Run → (size : ℕ) → Bool
-is_told (run.Answered records rows members stored sums) size = leb 5 size
-is_told (run.Refused number place) size = ltb place (2 ^ 58)
+abbrev pub is_told : Outcome Run → (size : ℕ) → Bool
+is_told (accepted run) size = leb 5 size
+is_told (Err r) size = ltb r.place (2 ^ 58)
 
 -- the run is reported: its result, and its counts in an area, with zeros behind them
-pub record RunReports (run : Run) (size : ℕ) (result : ℤ) (counts : List ℕ) : Type 0 where
+pub record RunReports (run : Outcome Run) (size : ℕ) (result : ℤ) (counts : List ℕ) : Type 0 where
   pub results : result ≡ run_result run
   pub counts_hold : counts ≡ filled 0 size (run_counts run)
 
@@ -141,31 +142,31 @@ lent_window order chain room counts_size =
 -- ---- Plan
 
 -- 3.10: the counts of a plan, with 1 for a cheapest one, and its distance bound; a refusal has none
-abbrev pub plan_counts : Planned → List ℕ
-plan_counts (planned.Cheapest steps rows members stored sums) =
+abbrev pub plan_counts : Outcome Planned → List ℕ
+plan_counts (accepted (planned.Cheapest steps rows members stored sums)) =
     steps ∷ 1 ∷ 0 ∷ rows ∷ members ∷ stored ∷ sums ∷ []
-plan_counts (planned.Spent steps bound rows members stored sums) =
+plan_counts (accepted (planned.Spent steps bound rows members stored sums)) =
     steps ∷ 0 ∷ bound ∷ rows ∷ members ∷ stored ∷ sums ∷ []
-plan_counts (planned.Refused number place) = []
+plan_counts (Err r) = []
 
 -- its result: the number of its steps, or its refusal
-abbrev pub plan_result : Planned → ℤ
-plan_result (planned.Cheapest steps rows members stored sums) = pos steps
-plan_result (planned.Spent steps bound rows members stored sums) = pos steps
-plan_result (planned.Refused number place) = refusal_of number place
+abbrev pub plan_result : Outcome Planned → ℤ
+plan_result (accepted (planned.Cheapest steps rows members stored sums)) = pos steps
+plan_result (accepted (planned.Spent steps bound rows members stored sums)) = pos steps
+plan_result (Err r) = refusal_of r.number r.place
 
 -- it can be returned as a signed number of 64 bits
-abbrev pub PlanSmall : Planned → Type 0
-PlanSmall (planned.Cheapest steps rows members stored sums) = steps < 2 ^ 63
-PlanSmall (planned.Spent steps bound rows members stored sums) = steps < 2 ^ 63
-PlanSmall (planned.Refused number place) = refusal_code number place < 2 ^ 63
+abbrev pub PlanSmall : Outcome Planned → Type 0
+PlanSmall (accepted (planned.Cheapest steps rows members stored sums)) = steps < 2 ^ 63
+PlanSmall (accepted (planned.Spent steps bound rows members stored sums)) = steps < 2 ^ 63
+PlanSmall (Err r) = refusal_code r.number r.place < 2 ^ 63
 
 -- it can be told with a counts area of `size` numbers: there is room for its counts
-abbrev pub is_plan_told : Planned → (size : ℕ) → Bool
+abbrev pub is_plan_told : Outcome Planned → (size : ℕ) → Bool
 is_plan_told answer size = leb (length (plan_counts answer)) size
 
 -- the plan is reported: its result, and its counts in an area, with zeros behind them
-pub record PlanReports (answer : Planned) (size : ℕ) (result : ℤ) (counts : List ℕ) : Type 0 where
+pub record PlanReports (answer : Outcome Planned) (size : ℕ) (result : ℤ) (counts : List ℕ) : Type 0 where
   pub results : result ≡ plan_result answer
   pub counts_hold : counts ≡ filled 0 size (plan_counts answer)
 

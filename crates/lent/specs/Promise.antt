@@ -1,5 +1,6 @@
 -- What the lent calls for C promise, for every input (Specification 1.1, 7.4 and 11). The sizes of the areas are their
 -- lengths. Assumes nothing.
+use Rattle.definitions.specs.Refusals.{Outcome, accepted}
 use Rattle.std.specs.Prelude.{◌≡◌, ◌↔◌, List, ℕ, ◌/◌, ◌≤◌, ◌<◌, ℤ, pos, negsuc, length, get_or, replicate}
 use Rattle.definitions.specs.declared.Answer.{Answer}
 use Rattle.definitions.specs.declared.Answer.TheVariants.{Passed}
@@ -26,7 +27,7 @@ use Rattle.lent.specs.Ends.{lent_window, run_counts, run_result}
 use Rattle.lent.specs.Ends.{lent_plan, plan_counts, plan_result}
 
 -- an answer was returned, and its counts stand in their area
-pub record Returned (answer : Answer) (result : ℤ) (counts : List ℕ) : Type 0 where
+pub record Returned (answer : Outcome Answer) (result : ℤ) (counts : List ℕ) : Type 0 where
   pub results : result ≡ result_of answer
   pub counts_hold : counts ≡ filled 0 (length counts) (counts_of answer)
 
@@ -42,7 +43,7 @@ list_due order list group counts = lent_list order (length list) (length group) 
 
 -- a result that is no refusal: what `ListPromise` says of an accepted list
 pub record ListGiven (order : Order) (result : ℤ) (list : List ℤ) (group counts : List ℕ) : Type 0 where
-  pub answer : Answer
+  pub answer : Outcome Answer
   pub kept : ListAccepted order answer list group
   pub returned : Returned answer result counts
 
@@ -72,7 +73,7 @@ certified_due order list group coefficients counts =
 -- a result that is no refusal: what `CertifiedPromise` says of an accepted list
 pub record CertifiedGiven (order : Order) (result : ℤ) (list : List ℤ) (group : List ℕ) (coefficients : List ℤ)
     (counts : List ℕ) : Type 0 where
-  pub answer : Answer
+  pub answer : Outcome Answer
   pub kept : CertifiedAccepted order (length list) (length group) answer list group coefficients
   pub returned : Returned answer result counts
 
@@ -103,7 +104,7 @@ split_due order vector list group pieces counts =
 -- a result that is no refusal: what `SplitPromise` says of an accepted split
 pub record SplitGiven (order : Order) (vector : List ℤ) (result : ℤ) (list : List ℤ) (group : List ℕ)
     (pieces : List ℤ) (counts : List ℕ) : Type 0 where
-  pub answer : Answer
+  pub answer : Outcome Answer
   pub kept : SplitAccepted order vector answer list group pieces
   pub returned : Returned answer result counts
 
@@ -143,7 +144,7 @@ pub record CheckGiven (order : Order) (rows coefficients : List ℤ) (result : �
   pub count : ℕ
   pub sums : ℕ
   pub kept : CheckPassed order rows coefficients (length group) group count sums
-  pub returned : Returned (Passed count sums) result counts
+  pub returned : Returned (accepted (Passed count sums)) result counts
 
 -- the rules are kept, the brought list is whole, and there is room for two counts
 pub record MayPass (order : Order) (rows coefficients : List ℤ) (group counts : List ℕ) : Type 0 where
@@ -197,7 +198,7 @@ KeepsLentSession first second list group steps counts result =
 -- ---- Window
 
 -- a run was returned, and its counts stand in their area
-pub record RunReturned (answer : Run) (result : ℤ) (counts : List ℕ) : Type 0 where
+pub record RunReturned (answer : Outcome Run) (result : ℤ) (counts : List ℕ) : Type 0 where
   pub results : result ≡ run_result answer
   pub counts_hold : counts ≡ filled 0 (length counts) (run_counts answer)
 
@@ -211,7 +212,7 @@ window_due order chain list group answers counts =
 -- a result that is no refusal: what `WindowPromise` says of a run whose records all have answers
 pub record WindowGiven (order : Order) (chain : Chain) (result : ℤ) (list : List ℤ) (group : List ℕ)
     (answers : List ℤ) (counts : List ℕ) : Type 0 where
-  pub answer : Run
+  pub answer : Outcome Run
   pub kept : WindowAccepted order chain answer list group answers
   pub returned : RunReturned answer result counts
 
@@ -237,7 +238,7 @@ KeepsLentWindow order chain list group answers counts result =
 -- ---- Plan
 
 -- a plan was returned, and its counts stand in their area
-pub record PlanReturned (answer : Planned) (result : ℤ) (counts : List ℕ) : Type 0 where
+pub record PlanReturned (answer : Outcome Planned) (result : ℤ) (counts : List ℕ) : Type 0 where
   pub results : result ≡ plan_result answer
   pub counts_hold : counts ≡ filled 0 (length counts) (plan_counts answer)
 
@@ -250,14 +251,14 @@ plan_due order problem list group plan counts =
 -- the second count is 1: what `PlanPromise` says of a cheapest plan
 pub record CheapestGiven (order : Order) (problem : Problem) (result : ℤ) (list : List ℤ) (group : List ℕ)
     (plan : List ℤ) (counts : List ℕ) : Type 0 where
-  pub answer : Planned
+  pub answer : Outcome Planned
   pub kept : CheapestReached order problem answer list group plan
   pub returned : PlanReturned answer result counts
 
 -- the second count is 0: what `PlanPromise` says of a plan where the budget is spent
 pub record SpentGiven (order : Order) (problem : Problem) (result : ℤ) (list : List ℤ) (group : List ℕ)
     (plan : List ℤ) (counts : List ℕ) : Type 0 where
-  pub answer : Planned
+  pub answer : Outcome Planned
   pub kept : BudgetSpent order problem answer list group plan
   pub returned : PlanReturned answer result counts
 

@@ -15,10 +15,9 @@ ghost use Rattle.lent.specs.Promise.{KeepsLentPlan, KeepsLentSession, KeepsLentW
 
 use answers::refusal;
 use certified_lists::list_with_coefficients;
-use coefficients::clear_coefficients;
-use definitions::{Answer, Ending, Planned, Run, Session};
+use definitions::{Answer, Ending, Planned, Refusal, Run, Session};
 use sessions::session;
-use vectors::{clear, clear_bytes};
+use vectors::clear;
 use windows::window;
 
 // The counts of a session.
@@ -50,10 +49,8 @@ fn lay_counts(area: &mut [u64], numbers: &[u64], k: usize)
     requires room { k ≤ length area.old }
     ensures laid { area.new ≡ filled 0 (length area.old) (take k numbers.now) }
 {
-    let mut i = 0;
-    while i < area.len() {
+    for i in 0..area.len() {
         area[i] = count_at(numbers, k, i);
-        i += 1;
     }
 }
 
@@ -73,38 +70,42 @@ fn give(area: &mut [u64], numbers: &[u64]) -> i64
 }
 
 // The result of an answer, and its counts in their area; 6 at 0 where the area is short, tested last.
-fn report(area: &mut [u64], answer: Answer) -> i64
+fn report(area: &mut [u64], answer: Result<Answer, Refusal>) -> i64
     requires small { Small answer }
     ensures reported { Reports answer (length area.old) result area.new }
 {
     match answer {
-        Answer::Moves {
-            rows,
-            members,
-            stored,
-            sums,
-        } => {
+        Ok(
+            Answer::Moves {
+                rows,
+                members,
+                stored,
+                sums,
+            },
+        ) => {
             let numbers = [rows, members, stored, sums];
             give(area, &numbers)
         }
-        Answer::Split {
-            pieces,
-            rows,
-            members,
-            stored,
-            sums,
-        } => {
+        Ok(
+            Answer::Split {
+                pieces,
+                rows,
+                members,
+                stored,
+                sums,
+            },
+        ) => {
             let numbers = [pieces, rows, members, stored, sums];
             give(area, &numbers)
         }
-        Answer::Passed { rows, sums } => {
+        Ok(Answer::Passed { rows, sums }) => {
             let numbers = [rows, sums];
             give(area, &numbers)
         }
-        Answer::Refused { number, place } => {
+        Err(refused) => {
             let none = [0u64; 1];
             lay_counts(area, &none, 0);
-            refusal(number, place)
+            refusal(refused.number, refused.place)
         }
     }
 }
@@ -126,8 +127,8 @@ pub extern "C" fn sukoreta_lent_list(
     let answer = moves::list(n, generators, exchanges, images, &mut *list, &mut *group);
     let result = report(counts, answer);
     if result < 0 {
-        clear(list, 0);
-        clear_bytes(group, 0);
+        clear(list, 0, 0);
+        clear(group, 0, 0);
         return result;
     }
     result
@@ -159,9 +160,9 @@ pub extern "C" fn sukoreta_lent_list_with_coefficients(
     );
     let result = report(counts, answer);
     if result < 0 {
-        clear(list, 0);
-        clear_bytes(group, 0);
-        clear_coefficients(coefficients, 0);
+        clear(list, 0, 0);
+        clear(group, 0, 0);
+        clear(coefficients, 0, 0);
         return result;
     }
     result
@@ -195,9 +196,9 @@ pub extern "C" fn sukoreta_lent_split(
     );
     let result = report(counts, answer);
     if result < 0 {
-        clear(list, 0);
-        clear_bytes(group, 0);
-        clear(pieces, 0);
+        clear(list, 0, 0);
+        clear(group, 0, 0);
+        clear(pieces, 0, 0);
         return result;
     }
     result
@@ -229,41 +230,37 @@ pub extern "C" fn sukoreta_lent_check(
     );
     let result = report(counts, answer);
     if result < 0 {
-        clear_bytes(group, 0);
+        clear(group, 0, 0);
         return result;
     }
     result
 }
 
 // How an order of a session ended, and its values (Specification 3.8).
-fn ending_counts(ending: Ending) -> [u64; 5]
+fn ending_counts(ending: Result<Ending, Refusal>) -> [u64; 5]
     ensures counted { result ≡ ending_counts ending }
 {
     match ending {
-        Ending::Moves {
-            rows,
-            members,
-            stored,
-            sums,
-        } => [0, rows, members, stored, sums],
-        Ending::Unfinished { sums } => [1, sums, 0, 0, 0],
-        Ending::Refused { number, place } => [2, number, place, 0, 0],
+        Ok(
+            Ending::Moves {
+                rows,
+                members,
+                stored,
+                sums,
+            },
+        ) => [0, rows, members, stored, sums],
+        Ok(Ending::Unfinished { sums }) => [1, sums, 0, 0, 0],
+        Err(refused) => [2, refused.number, refused.place, 0, 0],
     }
 }
 
 // 1 for a finished order, 0 for another.
-fn finished_one(ending: Ending) -> u64
+fn finished_one(ending: Result<Ending, Refusal>) -> u64
     ensures told { result ≡ finished_in ending }
 {
     match ending {
-        Ending::Moves {
-            rows,
-            members,
-            stored,
-            sums,
-        } => 1,
-        Ending::Unfinished { sums } => 0,
-        Ending::Refused { number, place } => 0,
+        Ok(Ending::Moves { .. }) => 1,
+        _ => 0,
     }
 }
 
@@ -324,14 +321,14 @@ pub extern "C" fn sukoreta_lent_session(
         steps,
     );
     if counts.len() < SESSION_COUNTS {
-        clear(list, 0);
-        clear_bytes(group, 0);
+        clear(list, 0, 0);
+        clear(group, 0, 0);
         return report(
             counts,
-            Answer::Refused {
+            Err(Refusal {
                 number: 6,
                 place: 0,
-            },
+            }),
         );
     }
     lay_session(counts, answer);
@@ -339,43 +336,31 @@ pub extern "C" fn sukoreta_lent_session(
 }
 
 // Whether a run can be told: there is room for its counts, or the place of its refusal fits into a result.
-fn is_told(run: Run, size: usize) -> bool
+fn is_told(run: Result<Run, Refusal>, size: usize) -> bool
     ensures told { result ≡ is_told run size }
 {
     match run {
-        Run::Answered {
-            records,
-            rows,
-            members,
-            stored,
-            sums,
-        } => RUN_COUNTS <= size,
-        Run::Refused { number, place } => place < PLACE_LIMIT,
+        Ok(_) => RUN_COUNTS <= size,
+        Err(refused) => refused.place < PLACE_LIMIT,
     }
 }
 
 // The result of a run that can be told, and its counts in their area.
-fn report_run(area: &mut [u64], run: Run) -> i64
+fn report_run(area: &mut [u64], run: Result<Run, Refusal>) -> i64
     requires told { is_told run (length area.old) ≡ true }
     requires small { RunSmall run }
     ensures reported { RunReports run (length area.old) result area.new }
 {
     match run {
-        Run::Answered {
-            records,
-            rows,
-            members,
-            stored,
-            sums,
-        } => {
-            let numbers = [records, rows, members, stored, sums];
+        Ok(run) => {
+            let numbers = [run.records, run.rows, run.members, run.stored, run.sums];
             lay_counts(area, &numbers, RUN_COUNTS);
-            records as i64
+            run.records as i64
         }
-        Run::Refused { number, place } => {
+        Err(refused) => {
             let none = [0u64; 1];
             lay_counts(area, &none, 0);
-            refusal(number, place)
+            refusal(refused.number, refused.place)
         }
     }
 }
@@ -416,76 +401,63 @@ pub extern "C" fn sukoreta_lent_window(
     if is_told(run, counts.len()) {
         return report_run(counts, run);
     }
-    clear(list, 0);
-    clear_bytes(group, 0);
-    clear(answers, 0);
+    clear(list, 0, 0);
+    clear(group, 0, 0);
+    clear(answers, 0, 0);
     report(
         counts,
-        Answer::Refused {
+        Err(Refusal {
             number: 6,
             place: 0,
-        },
+        }),
     )
 }
 
 // Whether an answer can be told: there is room for its counts, or it is a refusal.
-fn is_plan_told(answer: Planned, size: usize) -> bool
+fn is_plan_told(answer: Result<Planned, Refusal>, size: usize) -> bool
     ensures told { result ≡ is_plan_told answer size }
 {
-    match answer {
-        Planned::Cheapest {
-            steps,
-            rows,
-            members,
-            stored,
-            sums,
-        } => PLAN_COUNTS <= size,
-        Planned::Spent {
-            steps,
-            bound,
-            rows,
-            members,
-            stored,
-            sums,
-        } => PLAN_COUNTS <= size,
-        Planned::Refused { number, place } => true,
-    }
+    answer.is_err() | (PLAN_COUNTS <= size)
 }
 
 // The result of an answer that can be told, and its counts in their area.
-fn report_plan(area: &mut [u64], answer: Planned) -> i64
+fn report_plan(area: &mut [u64], answer: Result<Planned, Refusal>) -> i64
     requires told { is_plan_told answer (length area.old) ≡ true }
     requires small { PlanSmall answer }
     ensures reported { PlanReports answer (length area.old) result area.new }
 {
     match answer {
-        Planned::Cheapest {
-            steps,
-            rows,
-            members,
-            stored,
-            sums,
-        } => {
+        Ok(
+            Planned::Cheapest {
+                steps,
+                rows,
+                members,
+                stored,
+                sums,
+            },
+        ) => {
             let numbers = [steps, 1, 0, rows, members, stored, sums];
             lay_counts(area, &numbers, PLAN_COUNTS);
             steps as i64
         }
-        Planned::Spent {
-            steps,
-            bound,
-            rows,
-            members,
-            stored,
-            sums,
-        } => {
+        Ok(
+            Planned::Spent {
+                steps,
+                bound,
+                rows,
+                members,
+                stored,
+                sums,
+            },
+        ) => {
             let numbers = [steps, 0, bound, rows, members, stored, sums];
             lay_counts(area, &numbers, PLAN_COUNTS);
             steps as i64
         }
-        Planned::Refused { number, place } => {
+        Err(refused) => {
             let none = [0u64; 1];
             lay_counts(area, &none, 0);
-            refusal(number, place)
+            refusal(refused.number, refused.place)
         }
     }
 }
@@ -526,14 +498,14 @@ pub extern "C" fn sukoreta_lent_plan(
     if is_plan_told(answer, counts.len()) {
         return report_plan(counts, answer);
     }
-    clear(list, 0);
-    clear_bytes(group, 0);
-    clear(plan, 0);
+    clear(list, 0, 0);
+    clear(group, 0, 0);
+    clear(plan, 0, 0);
     report(
         counts,
-        Answer::Refused {
+        Err(Refusal {
             number: 6,
             place: 0,
-        },
+        }),
     )
 }

@@ -1,6 +1,6 @@
 -- Steps 1 to 5 on a list area, with the table of a group (Specification 3). Assumes nothing.
-use mathlib.Core.Path.{◌≡◌, sym, ◌∙◌, ap, ap₂, subst}
-use mathlib.Core.Bool.{true}
+use Rattle.definitions.specs.Refusals.{Outcome, refused}
+use mathlib.Core.Path.{◌≡◌, sym, ◌∙◌, ap, subst}
 use mathlib.Core.List.{List, []}
 use Prim.Native.Nat.{ℕ, ◌*◌, ◌≤◌}
 use native.Mathlib.Omega.{arith}
@@ -8,13 +8,9 @@ use native.Mathlib.Nat.{mul-le-mul, mul-le-mul_right}
 use lib.IntN.{ℤ, pos}
 use lib.ListN.{length}
 use Rattle.definitions.specs.Limits.{group_limit, list_limit}
-use Rattle.definitions.specs.Lists.{concat}
-use Rattle.definitions.specs.Vector.{Vector, within}
 use Rattle.definitions.specs.Group.{Exchange}
-use Rattle.definitions.specs.Completion.{completed, final_rows, running}
-use Rattle.definitions.specs.Completion as Defined
-use Rattle.definitions.specs.Certified.{certified_completed}
-use Rattle.definitions.specs.Lent.{filled, vectors_of, numbers_of, list_rows}
+use Rattle.definitions.specs.Completion.{final_rows, running}
+use Rattle.definitions.specs.Lent.{filled, vectors_of, list_rows}
 use Rattle.definitions.specs.Refusals.{accepted}
 use Rattle.definitions.specs.Calls.{Listing, listing_of}
 use Rattle.theory.proofs.Lists.{chunks-length}
@@ -32,14 +28,11 @@ use Rattle.reduction.specs.Marks.{RowsMarked}
 use Rattle.coefficients.proofs.Nothing.{nothing-closed, vectors-none, width-none}
 use Rattle.completion.specs.declared.Sizes.{Sizes}
 use Rattle.completion.specs.declared.State.{State}
-use Rattle.completion.specs.declared.Completion.{Completion}
-use Rattle.completion.specs.declared.Completion.TheVariants as case
 use Rattle.completion.specs.Machine.{state_in, sizes_of, completed_in, Areas, After}
 use Rattle.certified.specs.Noting.{CertifiedTo, Notable}
 use Rattle.certified.specs.Noting as Noting
 use Rattle.sorting.specs.Flags.{Finished}
-use Rattle.moves.specs.declared.Listed.TheVariants as listed
-use Rattle.moves.specs.Found.{Grouped, listing_with, listed_of, Finds}
+use Rattle.moves.specs.Found.{Grouped, listing_with, Finds}
 use Rattle.moves.proofs.Ends.{finds-refused}
 
 -- ---- a completion that has no coefficients to note
@@ -51,16 +44,12 @@ nothing-notable {shape} {group} T limit basis coefficients e = record {
 }
 
 -- it is the completion
-pub plain-after : {table : List ℕ} {list : List ℤ} {marks keys : List ℕ} {coefficients : List ℤ} {r : Completion}
+pub plain-after : {table : List ℕ} {list : List ℤ} {marks keys : List ℕ} {coefficients : List ℤ} {r : Outcome State}
     (sizes : Sizes) (generators basis : List ℤ) → length basis ≡ 0
     → CertifiedTo sizes.shape table list marks keys basis coefficients (Noting.completed_in sizes table generators basis) r
     → After sizes.shape table list marks keys (completed_in sizes table generators) r
-plain-after {table} {list} {marks} {keys} {r = r} sizes generators basis e C =
-    let n = sizes.shape.n in
-    let sequences = sequences_in sizes.shape table in
-    subst (λ (c : Defined.Completion). After sizes.shape table list marks keys c r)
-    (ap (λ (b : List Vector). (certified_completed b sequences sizes.limit (vectors_of n generators)).completion) (vectors-none n basis e)
-    ∙ completed-plain sequences sizes.limit (vectors_of n generators)) C.after
+plain-after sizes generators basis e C =
+    rw (vectors-none sizes.shape.n basis e, completed-plain (sequences_in sizes.shape _) sizes.limit (vectors_of sizes.shape.n generators)) at C.after
 
 module _ {shape : Shape} {generators : List ℤ} {group : List ℕ} (G : Grouped shape generators group) (list_size limit : ℕ) (rows : limit ≡ list_rows shape.n list_size) where
   abbrev n : ℕ
@@ -75,7 +64,7 @@ module _ {shape : Shape} {generators : List ℤ} {group : List ℕ} (G : Grouped
 
   inside : limit * n ≤ list_size
   unfolding list_rows
-  inside = subst (λ (k : ℕ). k * n ≤ list_size) (sym rows) (rows_inside list_limit n list_size)
+  inside = rw rows (rows_inside list_limit n list_size)
 
   -- a cleared list area, and marks for all images
   pub cleared-areas : {list : List ℤ} {marks : List ℕ} → list ≡ filled (pos 0) list_size [] → list_limit * group_limit ≤ length marks → Areas (sizes_of shape limit) group list marks
@@ -88,18 +77,17 @@ module _ {shape : Shape} {generators : List ℤ} {group : List ℕ} (G : Grouped
         rows = few;
         room = omega (arith, inside, ap length e, length-filled (pos 0) list_size [] h);
         marks_room = omega (arith, mul-le-mul few G.small, m);
-        limited = subst (λ (l : List ℤ). within headroom l ≡ true) (sym (e ∙ filled-nothing (pos 0) list_size)) (each_within headroom (zeros_within headroom list_size));
+        limited = rw (e, filled-nothing (pos 0) list_size) (each_within headroom (zeros_within headroom list_size));
       }
 
   module _ {list : List ℤ} {marks keys : List ℕ} where
     -- the completion was turned down
-    pub steps-stopped : (number place : ℕ) {group_size : ℕ} → After shape group list marks keys (completed_in (sizes_of shape limit) group generators) (case.Stopped number place)
-        → Finds n list_size group_size (listing_with n list_size table generators) list group (listed.Refused number place)
+    pub steps-stopped : (number place : ℕ) {group_size : ℕ} → After shape group list marks keys (completed_in (sizes_of shape limit) group generators) (refused number place)
+        → Finds n list_size group_size (listing_with n list_size table generators) list group (refused number place)
     unfolding listing_of
-    steps-stopped number place A =
-        finds-refused (sym (ap (listing_of table) (A.answer ∙ ap (λ (k : ℕ). completed table k (vectors_of n generators)) rows)))
+    steps-stopped number place A = finds-refused (rw (← rows, ← A.answer))
 
-    module _ (s : State) (A : After shape group list marks keys (completed_in (sizes_of shape limit) group generators) (case.Running s)) (long : length list ≡ list_size) where
+    module _ (s : State) (A : After shape group list marks keys (completed_in (sizes_of shape limit) group generators) (accepted s)) (long : length list ≡ list_size) where
       sound : Sound G.admissible.symmetric limit (running (state_in n list s))
       sound = subst (Sound G.admissible.symmetric limit) (sym A.answer) (completed-sound G.admissible.symmetric G.admissible.nonzero G.admissible.entries limit)
 
@@ -120,27 +108,19 @@ module _ {shape : Shape} {generators : List ℤ} {group : List ℕ} (G : Grouped
 
       -- and then step 5
       pub steps-ended : {final : List ℤ} (count : ℕ) → Finished (record { shape = shape; k = s.stored }) group list final count
-          → Finds n list_size (length group) (listing_with n list_size table generators) final group (listed.Found count shape.g s.stored s.sums)
+          → Finds n list_size (length group) (listing_with n list_size table generators) final group (accepted (record { rows = count; members = shape.g; stored = s.stored; sums = s.sums }))
       unfolding listing_of
-      steps-ended {final} count F = record {
-        answer =
-            ap₂ (λ (a b : ℕ). listed.Found a b s.stored s.sums) F.counted (sym (chunks-length n shape.g group))
-            ∙ ap (λ (k : ℕ). listed.Found (length kept) (length table) k s.sums) (sym (rows-count n s.stored list)) ∙ ap listed_of (sym found-is);
-        list_holds = λ found h. F.lies ∙ ap₂ (λ (k : ℕ) (l : List Vector). filled (pos 0) k (numbers_of n l)) long (ap-rows found h);
-        group_holds = λ found h. G.held ∙ ap (λ (t : List Exchange). filled 0 (length group) (concat t)) (ap-table found h);
+      steps-ended count F = record {
+        answer = rw (found-is, F.counted, chunks-length n shape.g group, rows-count n s.stored list);
+        list_holds = λ found h. rw (← is-ended h, ← long) F.lies;
+        group_holds = λ found h. rw (← is-ended h) G.held;
       }
         where
-          kept : List Vector
-          kept = final_rows table (rows_at n s.stored list)
-
           ended : Listing
-          ended = record { rows = kept; table = table; stored = length (rows_at n s.stored list); sums = s.sums }
+          ended = record { rows = final_rows table (rows_at n s.stored list); table = table; stored = length (rows_at n s.stored list); sums = s.sums }
 
           found-is : listing_with n list_size table generators ≡ accepted ended
-          found-is = sym (ap (listing_of table) (A.answer ∙ ap (λ (k : ℕ). completed table k (vectors_of n generators)) rows))
+          found-is = rw (← rows, ← A.answer)
 
-          ap-rows : (found : Listing) → listing_with n list_size table generators ≡ accepted found → kept ≡ found.rows
-          ap-rows found h = let y : ended ≡ found = cc (sym found-is ∙ h) in ap (λ (f : Listing). f.rows) y
-
-          ap-table : (found : Listing) → listing_with n list_size table generators ≡ accepted found → table ≡ found.table
-          ap-table found h = let y : ended ≡ found = cc (sym found-is ∙ h) in ap (λ (f : Listing). f.table) y
+          is-ended : {found : Listing} → listing_with n list_size table generators ≡ accepted found → ended ≡ found
+          is-ended h = cc (sym found-is ∙ h)

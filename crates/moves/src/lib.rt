@@ -3,42 +3,28 @@
 
 ghost use Rattle.std.specs.Prelude.{◌≡◌, [], ◌∷◌, ◌*◌, ◌≤◌, length};
 ghost use Rattle.definitions.specs.Limits.{group_limit, list_limit};
-ghost use Rattle.definitions.specs.Refusals.{cells_fault, first_fault, refused, split_size_fault};
+ghost use Rattle.definitions.specs.Completion.{sum_count};
+ghost use Rattle.definitions.specs.Refusals.{cells_fault, first_fault, split_size_fault};
 ghost use Rattle.definitions.specs.Calls.{listing};
 ghost use Rattle.vectors.specs.Areas.{sent_order};
 ghost use Rattle.moves.specs.Promise.{KeepsList, KeepsSplit, KeepsCheck};
 ghost use Rattle.moves.specs.Found.{Completes, FindsIn, Grouped};
 ghost use Rattle.moves.specs.Found.{Entered, Held, SplitEndsIn, parts_in, pieces_fault};
-ghost use Rattle.moves.specs.Found.{ChecksIn, Sized, brought_fault_in, checked_of};
+ghost use Rattle.moves.specs.Found.{ChecksIn, Sized, brought_fault_in};
 
-use admission::{Admission, admit, rows_up_to};
+use admission::{admit, rows_up_to};
 use certified::complete;
-use completion::{Completion, Sizes};
+use completion::Sizes;
 use definitions::limits::{CELLS, GROUP_LIMIT, LIST_LIMIT, PIECE_WIDTH, SPLIT_LIMIT};
-use definitions::{Answer, Fault};
+use definitions::{Answer, Refusal};
 use reduction::{Extent, Shape};
-use vectors::{clear, clear_bytes};
+use vectors::clear;
 
 // The marks of all images of all list rows.
 pub const MARKS: usize = LIST_LIMIT * GROUP_LIMIT;
 
 // The keys of images for which there is room; an image without a key is compared.
 pub const KEYS: usize = 8_192;
-
-// What a List finds: the numbers of its answer.
-#[derive(Clone, Copy)]
-pub enum Listed {
-    Found {
-        rows: u64,
-        members: u64,
-        stored: u64,
-        sums: u64,
-    },
-    Refused {
-        number: u64,
-        place: u64,
-    },
-}
 
 // The numbers of an accepted List.
 #[derive(Clone, Copy)]
@@ -47,13 +33,6 @@ pub struct Numbers {
     pub members: u64,
     pub stored: u64,
     pub sums: u64,
-}
-
-// What a Check finds: the numbers of its answer.
-#[derive(Clone, Copy)]
-enum Checked {
-    Passed { rows: u64, sums: u64 },
-    Refused { number: u64, place: u64 },
 }
 
 // ---- List
@@ -67,16 +46,16 @@ fn complete_list(
     shape: Shape,
     marks: &mut [u8],
     keys: &mut [u64],
-) -> Listed
+) -> Result<Numbers, Refusal>
     requires grouped { Grouped shape generators.now group.now }
     requires room { list_limit * group_limit ≤ length marks.old }
     ensures found { Completes shape generators list group result }
 {
-    clear(&mut *list, 0);
+    clear(&mut *list, 0, 0);
     let limit = rows_up_to(LIST_LIMIT, shape.n, list.len());
     let sizes = Sizes { shape, limit };
     let mut none = [0i64; 0];
-    let c = complete(
+    let s = complete(
         generators,
         &mut *list,
         group,
@@ -85,22 +64,17 @@ fn complete_list(
         &mut *keys,
         &generators[..0],
         &mut none,
-    );
-    match c {
-        Completion::Stopped { number, place } => Listed::Refused { number, place },
-        Completion::Running(s) => {
-            let stored = s.stored;
-            let mut flags = [0u8; LIST_LIMIT];
-            let extent = Extent { shape, k: stored };
-            let rows = sorting::finish(&mut *list, group, extent, &*marks, &*keys, &mut flags);
-            Listed::Found {
-                rows: rows as u64,
-                members: shape.g as u64,
-                stored: stored as u64,
-                sums: s.sums,
-            }
-        }
-    }
+    )?;
+    let stored = s.stored;
+    let mut flags = [0u8; LIST_LIMIT];
+    let extent = Extent { shape, k: stored };
+    let rows = sorting::finish(&mut *list, group, extent, &*marks, &*keys, &mut flags);
+    Ok(Numbers {
+        rows: rows as u64,
+        members: shape.g as u64,
+        stored: stored as u64,
+        sums: s.sums,
+    })
 }
 
 // 5 to 13 and 23, and the areas of an accepted List, with marks and keys that the caller lends (Specification 7.1).
@@ -113,23 +87,20 @@ pub fn make_list_with(
     group: &mut [u8],
     marks: &mut [u8],
     keys: &mut [u64],
-) -> Listed
+) -> Result<Numbers, Refusal>
     requires room { list_limit * group_limit ≤ length marks.old }
     ensures found { FindsIn n (listing (sent_order n generators exchanges images)) list group result }
 {
     let fits = refusals::whole_rows(n, list.len());
-    let admission = admit(n, generators, exchanges, images, fits, &mut *group);
-    match admission {
-        Admission::Refused { number, place } => Listed::Refused { number, place },
-        Admission::Members(g) => complete_list(
-            generators,
-            &mut *list,
-            &*group,
-            Shape { n, g },
-            &mut *marks,
-            &mut *keys,
-        ),
-    }
+    let g = admit(n, generators, exchanges, images, fits, &mut *group)?;
+    complete_list(
+        generators,
+        &mut *list,
+        &*group,
+        Shape { n, g },
+        &mut *marks,
+        &mut *keys,
+    )
 }
 
 // The same, with marks and keys of its own.
@@ -140,7 +111,7 @@ pub fn make_list(
     images: &[i64],
     list: &mut [i32],
     group: &mut [u8],
-) -> Listed
+) -> Result<Numbers, Refusal>
     ensures found { FindsIn n (listing (sent_order n generators exchanges images)) list group result }
 {
     let mut marks = [0u8; MARKS];
@@ -166,26 +137,21 @@ pub fn list(
     images: &[i64],
     list: &mut [i32],
     group: &mut [u8],
-) -> Answer
+) -> Result<Answer, Refusal>
     ensures kept { KeepsList n generators exchanges images list group result }
 {
     let found = make_list(n, generators, exchanges, images, &mut *list, &mut *group);
     match found {
-        Listed::Found {
-            rows,
-            members,
-            stored,
-            sums,
-        } => Answer::Moves {
-            rows,
-            members,
-            stored,
-            sums,
-        },
-        Listed::Refused { number, place } => {
-            clear(&mut *list, 0);
-            clear_bytes(&mut *group, 0);
-            Answer::Refused { number, place }
+        Ok(found) => Ok(Answer::Moves {
+            rows: found.rows,
+            members: found.members,
+            stored: found.stored,
+            sums: found.sums,
+        }),
+        Err(refusal) => {
+            clear(&mut *list, 0, 0);
+            clear(&mut *group, 0, 0);
+            Err(refusal)
         }
     }
 }
@@ -193,38 +159,35 @@ pub fn list(
 // ---- Split
 
 // Refusals 5 and 6 that come before the List of a Split (Specification 7.3).
-fn split_sizes(n: usize, vector: &[i32], pieces: usize) -> Fault
+fn split_sizes(n: usize, vector: &[i32], pieces: usize) -> Result<(), Refusal>
     ensures met { result ≡ first_fault (cells_fault n ∷ split_size_fault n vector.now pieces ∷ []) }
 {
-    let cells = refusals::cells_fault(n);
-    let sizes = refusals::split_size_fault(n, vector, pieces);
-    refusals::first_met(cells, sizes)
+    refusals::cells_fault(n)?;
+    refusals::split_size_fault(n, vector, pieces)
 }
 
 // A refused Split: zeros in its three areas (Specification 7.4).
 fn refuse_split(
-    number: u64,
-    place: u64,
+    refusal: Refusal,
     basis: &mut [i32],
     group: &mut [u8],
     pieces: &mut [i32],
-) -> Answer
-    ensures zeros { SplitEndsIn 0 (refused number place) basis group pieces result }
+) -> Result<Answer, Refusal>
+    ensures zeros { SplitEndsIn 0 (Err refusal) basis group pieces result }
 {
-    clear(&mut *basis, 0);
-    clear_bytes(&mut *group, 0);
-    clear(&mut *pieces, 0);
-    Answer::Refused { number, place }
+    clear(&mut *basis, 0, 0);
+    clear(&mut *group, 0, 0);
+    clear(&mut *pieces, 0, 0);
+    Err(refusal)
 }
 
 // Refusals 15 and 16: what remains of the vector, and the number of its pieces in an area of `size` numbers
 // (Specification 4.1).
-fn pieces_fault(rest: [i32; CELLS], count: usize, size: usize) -> Fault
+fn pieces_fault(rest: [i32; CELLS], count: usize, size: usize) -> Result<(), Refusal>
     ensures met { result ≡ pieces_fault rest count size }
 {
-    let outside = refusals::fault_if(15, !vectors::is_zero(rest));
-    let crowded = refusals::fault_if(16, !(count <= size / PIECE_WIDTH));
-    refusals::first_met(outside, crowded)
+    refusals::fault_if(15, !vectors::is_zero(rest))?;
+    refusals::fault_if(16, !(count <= size / PIECE_WIDTH))
 }
 
 // The pieces of a vector by the list and the group in their areas, and refusals 15 and 16 (Specification 4.1).
@@ -235,7 +198,7 @@ fn take_pieces(
     group: &mut [u8],
     pieces: &mut [i32],
     found: Numbers,
-) -> Answer
+) -> Result<Answer, Refusal>
     requires held { Held n found basis.old group.old }
     requires entered { Entered n vector.now }
     ensures ended { SplitEndsIn n (parts_in n found vector basis group pieces) basis group pieces result }
@@ -246,19 +209,16 @@ fn take_pieces(
     let taken = pieces::split_rows(v, &*basis, k, &*group, Shape { n, g }, &mut *pieces);
     let rest = taken.rest;
     let count = taken.count;
-    let fault = pieces_fault(rest, count, pieces.len());
-    match fault {
-        Fault::At { number, place } => {
-            refuse_split(number, place, &mut *basis, &mut *group, &mut *pieces)
-        }
-        Fault::None => Answer::Split {
-            pieces: count as u64,
-            rows: found.rows,
-            members: found.members,
-            stored: found.stored,
-            sums: found.sums,
-        },
+    if let Err(refusal) = pieces_fault(rest, count, pieces.len()) {
+        return refuse_split(refusal, &mut *basis, &mut *group, &mut *pieces);
     }
+    Ok(Answer::Split {
+        pieces: count as u64,
+        rows: found.rows,
+        members: found.members,
+        stored: found.stored,
+        sums: found.sums,
+    })
 }
 
 // 14 to 16, once the List of a Split has ended (Specification 4.1).
@@ -269,18 +229,15 @@ fn split_listed(
     group: &mut [u8],
     pieces: &mut [i32],
     found: Numbers,
-) -> Answer
+) -> Result<Answer, Refusal>
     requires held { Held n found basis.old group.old }
     requires sized { length vector.now ≡ n }
     ensures ended { SplitEndsIn n (parts_in n found vector basis group pieces) basis group pieces result }
 {
-    let fault = refusals::past_fault(vector, 14, SPLIT_LIMIT);
-    match fault {
-        Fault::At { number, place } => {
-            refuse_split(number, place, &mut *basis, &mut *group, &mut *pieces)
-        }
-        Fault::None => take_pieces(n, vector, &mut *basis, &mut *group, &mut *pieces, found),
+    if let Err(refusal) = refusals::past_fault(vector, 14, SPLIT_LIMIT) {
+        return refuse_split(refusal, &mut *basis, &mut *group, &mut *pieces);
     }
+    take_pieces(n, vector, &mut *basis, &mut *group, &mut *pieces, found)
 }
 
 // Split: what List leaves in the list area and the group area, and in the pieces area images of listed rows that add up
@@ -294,31 +251,17 @@ pub fn split(
     basis: &mut [i32],
     group: &mut [u8],
     pieces: &mut [i32],
-) -> Answer
+) -> Result<Answer, Refusal>
     ensures kept { KeepsSplit n generators exchanges images vector basis group pieces result }
 {
-    let fault = split_sizes(n, vector, pieces.len());
-    if let Fault::At { number, place } = fault {
-        return refuse_split(number, place, &mut *basis, &mut *group, &mut *pieces);
+    if let Err(refusal) = split_sizes(n, vector, pieces.len()) {
+        return refuse_split(refusal, &mut *basis, &mut *group, &mut *pieces);
     }
-    clear(pieces, 0);
-    let listed = list(n, generators, exchanges, images, &mut *basis, &mut *group);
-    let Answer::Moves {
-        rows,
-        members,
-        stored,
-        sums,
-    } = listed
-    else {
-        return listed;
-    };
-    let found = Numbers {
-        rows,
-        members,
-        stored,
-        sums,
-    };
-    split_listed(n, vector, &mut *basis, &mut *group, &mut *pieces, found)
+    let found = make_list(n, generators, exchanges, images, &mut *basis, &mut *group);
+    match found {
+        Err(refusal) => refuse_split(refusal, &mut *basis, &mut *group, &mut *pieces),
+        Ok(numbers) => split_listed(n, vector, &mut *basis, &mut *group, &mut *pieces, numbers),
+    }
 }
 
 // ---- Check
@@ -330,33 +273,25 @@ fn brought_fault(
     coefficients: &[i64],
     group: &[u8],
     shape: Shape,
-) -> Fault
+) -> Result<(), Refusal>
     requires grouped { Grouped shape generators.now group.now }
     requires sized { Sized shape.n generators.now rows.now coefficients.now }
     ensures met { result ≡ brought_fault_in shape generators rows coefficients group }
 {
-    let fault = certificates::rows_fault(generators, rows, coefficients, group, shape);
-    match fault {
-        Fault::At { number, place } => Fault::At { number, place },
-        Fault::None => {
-            let mut marks = [0u8; MARKS];
-            let mut keys = [0u64; KEYS];
-            wholeness::wholeness_fault(generators, rows, group, shape, &mut marks, &mut keys)
-        }
-    }
+    certificates::rows_fault(generators, rows, coefficients, group, shape)?;
+    let mut marks = [0u8; MARKS];
+    let mut keys = [0u64; KEYS];
+    wholeness::wholeness_fault(generators, rows, group, shape, &mut marks, &mut keys)
 }
 
-// A pass of `rows` rows by a group of `g` members, unless a test was met (Specification 5.1).
-fn unless_faulty(fault: Fault, rows: usize, g: usize) -> Checked
+// A pass of `rows` rows by a group of `g` members (Specification 5.1).
+fn passed(rows: usize, g: usize) -> Answer
     requires few { (rows ≤ list_limit) × (g ≤ group_limit) }
-    ensures told { result ≡ checked_of rows g fault }
+    ensures told { result ≡ Answer.Passed rows (sum_count g rows) }
 {
-    match fault {
-        Fault::At { number, place } => Checked::Refused { number, place },
-        Fault::None => Checked::Passed {
-            rows: rows as u64,
-            sums: (g * rows * (rows + 1)) as u64,
-        },
+    Answer::Passed {
+        rows: rows as u64,
+        sums: (g * rows * (rows + 1)) as u64,
     }
 }
 
@@ -369,18 +304,13 @@ fn check_list(
     rows: &[i32],
     coefficients: &[i64],
     group: &mut [u8],
-) -> Checked
+) -> Result<Answer, Refusal>
     ensures checked { ChecksIn n generators exchanges images rows coefficients group result }
 {
     let fits = refusals::brought_fits(n, generators, rows.len(), coefficients.len());
-    let admission = admit(n, generators, exchanges, images, fits, &mut *group);
-    match admission {
-        Admission::Refused { number, place } => Checked::Refused { number, place },
-        Admission::Members(g) => {
-            let fault = brought_fault(generators, rows, coefficients, &*group, Shape { n, g });
-            unless_faulty(fault, rows.len() / n, g)
-        }
-    }
+    let g = admit(n, generators, exchanges, images, fits, &mut *group)?;
+    brought_fault(generators, rows, coefficients, &*group, Shape { n, g })?;
+    Ok(passed(rows.len() / n, g))
 }
 
 // Check: a pass if and only if the rules are kept and the brought list is whole; the table of the group in the group
@@ -393,7 +323,7 @@ pub fn check(
     rows: &[i32],
     coefficients: &[i64],
     group: &mut [u8],
-) -> Answer
+) -> Result<Answer, Refusal>
     ensures kept { KeepsCheck n generators exchanges images rows coefficients group result }
 {
     let found = check_list(
@@ -405,11 +335,8 @@ pub fn check(
         coefficients,
         &mut *group,
     );
-    match found {
-        Checked::Passed { rows, sums } => Answer::Passed { rows, sums },
-        Checked::Refused { number, place } => {
-            clear_bytes(&mut *group, 0);
-            Answer::Refused { number, place }
-        }
+    if found.is_err() {
+        clear(&mut *group, 0, 0);
     }
+    found
 }

@@ -1,4 +1,5 @@
 -- The commands of an accepted order: they are those that were counted, and the order has exactly their length (Specification 8.3). Assumes nothing.
+use Rattle.definitions.specs.Refusals.{Outcome, accepted}
 use mathlib.Core.Path.{◌≡◌, refl, sym, ap, subst, subst⁻¹, ◌∙◌}
 use mathlib.Core.Bool.{Bool, false, ◌&&◌}
 use mathlib.Core.List.{List, [], ◌∷◌}
@@ -24,8 +25,6 @@ use Rattle.orders.specs.declared.Phase.{Phase}
 use Rattle.orders.specs.declared.Phase.TheVariants.{Empty, Generators, Exchanges, Images, Vectors, Rows, Paired, Done}
 use Rattle.orders.specs.declared.Counts.{Counts}
 use Rattle.orders.specs.declared.Progress.{Progress}
-use Rattle.orders.specs.declared.Scanned.{Scanned}
-use Rattle.orders.specs.declared.Scanned.TheVariants.{Counted}
 use Rattle.orders.specs.declared.Step.{Step}
 use Rattle.orders.specs.Grammar.{counted_by, is_image_due, may_stand, one_if, phase_after, too_many}
 use Rattle.orders.specs.Scan.{refuse, past_by, passed, admitted, step_from, step_of, after, scan_from, scan_of, start}
@@ -241,11 +240,11 @@ module _ (order : List ℕ) (c : Counts) where
   no-commands (suc fuel) at h = rw (past-at order at h)
 
   -- what an accepted scan says of the commands that are left
-  abbrev Says : (v : Service) (fuel : ℕ) → Progress → Scanned → Type 0
-  Says v fuel s found = found ≡ Counted c → Left v order s.phase s.at s.counts c (commands_from fuel order n m s.at)
+  abbrev Says : (v : Service) (fuel : ℕ) → Progress → Outcome Counts → Type 0
+  Says v fuel s found = found ≡ accepted c → Left v order s.phase s.at s.counts c (commands_from fuel order n m s.at)
 
   -- a refusal is no acceptance
-  refused_says : (v : Service) (fuel : ℕ) (s : Progress) (rest : Progress → Scanned) (number place : ℕ) → Says v fuel s (after (refuse number place) rest)
+  refused_says : (v : Service) (fuel : ℕ) (s : Progress) (rest : Progress → Outcome Counts) (number place : ℕ) → Says v fuel s (after (refuse number place) rest)
   unfolding after
   refused_says v fuel s rest number place e = absurd (let z : ◌≡◌ {A = ℕ} 0 1 = cc in omega arith)
 
@@ -347,9 +346,9 @@ pub record Accepted (v : Service) (order : List ℕ) (c : Counts) : Type 0 where
   pub coefficients-many : many coefficients_code (commands_in order c) ≡ c.rows
   pub vectors-many : many vector_code (commands_in order c) ≡ vector_count v
 
-pub accepted : (v : Service) (order : List ℕ) (c : Counts) → scan_of v order ≡ Counted c → Accepted v order c
+pub accepted-order : (v : Service) (order : List ℕ) (c : Counts) → scan_of v order ≡ accepted c → Accepted v order c
 unfolding scan_of commands_in
-accepted v order c e =
+accepted-order v order c e =
     let left = says order c v (suc (length order)) start e in
     let g = left.generators-left in
     let x = left.exchanges-left in

@@ -1,6 +1,5 @@
 -- Laws of the scan and of the numbers that an accepted order lends.
 pub mod Grammar
-pub mod Parts
 pub mod Sizes
 pub mod Steps
 pub mod Scans

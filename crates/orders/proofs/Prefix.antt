@@ -1,4 +1,5 @@
 -- The first bytes of an order decide its scan (Specification 8.3): a scan that goes on stays below the length of the longest order. Assumes nothing.
+use Rattle.definitions.specs.Refusals.{Outcome, accepted}
 use Rattle.std.specs.Prelude.{if◌then◌else◌}
 use mathlib.Core.Path.{◌≡◌, refl, sym, ap, ◌∙◌}
 use mathlib.Core.Bool.{◌&&◌}
@@ -21,8 +22,6 @@ use Rattle.commands.proofs.Known.{byte-at, known_at, past-only, width-most}
 use Rattle.orders.specs.declared.Service.{Service}
 use Rattle.orders.specs.declared.Progress.{Progress}
 use Rattle.orders.specs.declared.Counts.{Counts}
-use Rattle.orders.specs.declared.Scanned.{Scanned}
-use Rattle.orders.specs.declared.Scanned.TheVariants.{Counted}
 use Rattle.orders.specs.declared.Step.{Step}
 use Rattle.orders.specs.declared.Step.TheVariants.{Next, Stop}
 use Rattle.orders.specs.Grammar.{is_image_due, may_stand}
@@ -94,7 +93,7 @@ module _ (order : List ℕ) (long : order_limit < length order) where
 -- ---- the scan
 
 -- the same step, and the same answers where it goes on
-same_after : (x : Step) (one two : Progress → Scanned) → ((t : Progress) → x ≡ Next t → one t ≡ two t) → after x one ≡ after x two
+same_after : (x : Step) (one two : Progress → Outcome Counts) → ((t : Progress) → x ≡ Next t → one t ≡ two t) → after x one ≡ after x two
 unfolding after
 same_after (Next t) one two h = h t refl
 same_after (Stop found) one two h = refl
@@ -120,5 +119,5 @@ scan-prefix v order =
     ]
 
 -- an accepted order is no longer than those, so that its numbers are those of its first bytes
-pub accepted-whole : (v : Service) (order : List ℕ) (c : Counts) → scan_of v order ≡ Counted c → take order_limit order ≡ order
+pub accepted-whole : (v : Service) (order : List ℕ) (c : Counts) → scan_of v order ≡ accepted c → take order_limit order ≡ order
 accepted-whole v order c e = take_all order_limit order (omega (arith, (accepted-few v order c e).1))

@@ -1,23 +1,16 @@
 -- How the commands make up the scan, and what its answers say (Specification 8.3). Assumes nothing.
-use Rattle.std.specs.Prelude.{if◌then◌else◌}
+use Rattle.definitions.specs.Refusals.{Outcome, accepted, refused}
 use mathlib.Core.Path.{◌≡◌, refl, sym, ap, subst, ◌∙◌}
 use mathlib.Core.List.{List}
 use Prim.Native.Nat.{ℕ, zero, suc, ◌+◌, ◌≤◌, ◌<◌}
 use native.Mathlib.Omega.{arith}
 use lib.ListN.{length}
-use Rattle.commands.specs.declared.Command.{Command}
-use Rattle.commands.specs.declared.Command.TheVariants.{Size, Generator, Exchange, Row, Coefficients, Vector, Image, End}
-use Rattle.commands.specs.declared.Reading.TheVariants.{Known, Unknown, Past}
-use Rattle.commands.specs.Commands.{code_of, command_at, operands_of, width_of}
 use Rattle.orders.specs.declared.Service.{Service}
 use Rattle.orders.specs.declared.Progress.{Progress}
 use Rattle.orders.specs.declared.Counts.{Counts}
-use Rattle.orders.specs.declared.Scanned.{Scanned}
-use Rattle.orders.specs.declared.Scanned.TheVariants.{Counted, Refused}
 use Rattle.orders.specs.declared.Step.{Step}
 use Rattle.orders.specs.declared.Step.TheVariants.{Next, Stop}
-use Rattle.orders.specs.Grammar.{is_image_due, may_stand}
-use Rattle.orders.specs.Scan.{Few, refuse, past_by, admitted, step_from, step_of, after, scan_from, scan_of, start}
+use Rattle.orders.specs.Scan.{Few, step_of, after, scan_from, scan_of, start}
 use Rattle.orders.proofs.Sizes.{length_most}
 use Rattle.orders.proofs.Steps.{Exact, Sound, TurnedDown, Answered, Kept, kept}
 
@@ -69,19 +62,19 @@ module _ (v : Service) (order : List ℕ) (s : Progress) where
   going_on t g e = going-fuel t g.fuel g.sound g.enough e g.same
 
   -- it stops: nothing is left
-  stop-fuel : (found : Scanned) (fuel : ℕ) → Sound order s → length order < s.at + fuel → step_of v order s ≡ Stop found → scan_from fuel v order s ≡ scan_of v order → found ≡ scan_of v order
+  stop-fuel : (found : Outcome Counts) (fuel : ℕ) → Sound order s → length order < s.at + fuel → step_of v order s ≡ Stop found → scan_from fuel v order s ≡ scan_of v order → found ≡ scan_of v order
   unfolding after
   stop-fuel found zero sound h e q = absurd (let w = sound.within.inside in omega arith)
   stop-fuel found (suc fuel) sound h e q = sym (one_more fuel e) ∙ q
 
   -- the same, with any fuel that is enough
-  pub going_end : (found : Scanned) → Going v order s → step_of v order s ≡ Stop found → found ≡ scan_of v order
+  pub going_end : (found : Outcome Counts) → Going v order s → step_of v order s ≡ Stop found → found ≡ scan_of v order
   going_end found g e = stop-fuel found g.fuel g.sound g.enough e g.same
 
 -- ---- the answers
 
 -- a command, and what follows it
-answered-after : (order : List ℕ) (at : ℕ) (x : Step) (rest : Progress → Scanned) → Kept order at x
+answered-after : (order : List ℕ) (at : ℕ) (x : Step) (rest : Progress → Outcome Counts) → Kept order at x
     → ((t : Progress) → x ≡ Next t → Answered order (rest t)) → Answered order (after x rest)
 unfolding after
 answered-after order at (Next t) rest k h = h t refl
@@ -101,46 +94,13 @@ unfolding scan_of
 answered v order = answered-from v order (suc (length order)) start (sound-start order) (omega arith)
 
 -- the counts of an accepted order keep the limits, and it is no longer than the longest
-pub accepted-few : (v : Service) (order : List ℕ) (c : Counts) → scan_of v order ≡ Counted c → Few c × (length order ≤ length_most)
+pub accepted-few : (v : Service) (order : List ℕ) (c : Counts) → scan_of v order ≡ accepted c → Few c × (length order ≤ length_most)
 accepted-few v order c e = (subst (Answered order) e (answered v order)).0
 
 -- it has all IMAGEs that are due, or none
-pub accepted-exact : (v : Service) (order : List ℕ) (c : Counts) → scan_of v order ≡ Counted c → Exact c
+pub accepted-exact : (v : Service) (order : List ℕ) (c : Counts) → scan_of v order ≡ accepted c → Exact c
 accepted-exact v order c e = (subst (Answered order) e (answered v order)).1
 
 -- a refusal is one of 1 to 6, and its place lies in the order or at its end
-pub turned_down : (v : Service) (order : List ℕ) (number place : ℕ) → scan_of v order ≡ Refused number place → TurnedDown order number place
+pub turned_down : (v : Service) (order : List ℕ) (number place : ℕ) → scan_of v order ≡ refused number place → TurnedDown order number place
 turned_down v order number place e = subst (Answered order) e (answered v order)
-
--- ---- one command, by what is read
-
-module _ (v : Service) (order : List ℕ) (s : Progress) where
-  -- no byte is left
-  pub step_past : command_at order s.at ≡ Past → step_of v order s ≡ refuse 1 (length order)
-  unfolding step_of step_from
-  step_past e = ap (step_from v order s) e
-
-  -- a byte that is no command
-  pub step-unknown : command_at order s.at ≡ Unknown → step_of v order s ≡ refuse 2 s.at
-  unfolding step_of step_from
-  step-unknown e = ap (step_from v order s) e
-
-  -- a command
-  pub step-known : (c : Command) → command_at order s.at ≡ Known c → step_of v order s ≡ (if may_stand v (is_image_due s.counts) s.phase (code_of c) then admitted order s.at (past_by s c) c else refuse 3 s.at)
-  unfolding step_of step_from
-  step-known c e = ap (step_from v order s) e
-
--- the operands of a command take no less with more cells and generators
-least-width : (c : Command) (n m : ℕ) → width_of c 0 0 ≤ width_of c n m
-least-width (Size p) n m = omega arith
-least-width (Generator p) n m = omega arith
-least-width (Exchange p) n m = omega arith
-least-width (Row p) n m = omega arith
-least-width (Coefficients p) n m = omega arith
-least-width (Vector p) n m = omega arith
-least-width (Image p) n m = omega arith
-least-width (End p) n m = omega arith
-
--- they are skipped
-pub past-operands : (s : Progress) (c : Command) → operands_of c + width_of c 0 0 ≤ (past_by s c).at
-past-operands s c = omega (arith, least-width c s.counts.cells s.counts.generators)

@@ -1,4 +1,6 @@
 -- What holds of each command of the scan (Specification 8.3): where it goes on, where the order is accepted, where it is refused. Assumes nothing.
+use Rattle.definitions.specs.Refusals.{Outcome, accepted}
+use Rattle.std.specs.declared.result.Result.TheVariants.{Err}
 use mathlib.Core.Path.{◌≡◌, refl}
 use mathlib.Core.Bool.{Bool, false, ◌&&◌, ◌||◌}
 use mathlib.Core.List.{List}
@@ -23,8 +25,6 @@ use Rattle.orders.specs.declared.Phase.{Phase}
 use Rattle.orders.specs.declared.Phase.TheVariants.{Empty, Generators, Exchanges, Images, Vectors, Rows, Paired, Done}
 use Rattle.orders.specs.declared.Counts.{Counts}
 use Rattle.orders.specs.declared.Progress.{Progress}
-use Rattle.orders.specs.declared.Scanned.{Scanned}
-use Rattle.orders.specs.declared.Scanned.TheVariants.{Counted, Refused}
 use Rattle.orders.specs.declared.Step.{Step}
 use Rattle.orders.specs.declared.Step.TheVariants.{Next, Stop}
 use Rattle.orders.specs.Grammar.{counted_by, is_image_due, may_stand, one_if, too_many}
@@ -62,9 +62,9 @@ pub record TurnedDown (order : List ℕ) (number place : ℕ) : Type 0 where
   pub inside : place ≤ length order
 
 -- what a scan answers: an accepted order keeps the limits, and has all IMAGEs or none
-abbrev pub Answered : (order : List ℕ) → Scanned → Type 0
-Answered order (Counted c) = (Few c × (length order ≤ length_most)) × Exact c
-Answered order (Refused number place) = TurnedDown order number place
+abbrev pub Answered : (order : List ℕ) → Outcome Counts → Type 0
+Answered order (accepted c) = (Few c × (length order ≤ length_most)) × Exact c
+Answered order (Err r) = TurnedDown order r.number r.place
 
 -- where a command at `at` goes on, it does so further on
 abbrev pub Kept : (order : List ℕ) (at : ℕ) → Step → Type 0

@@ -1,18 +1,18 @@
 -- Specification 8.3: the example files, and what their scans answer. Assumes nothing.
+use Rattle.definitions.specs.Refusals.{Outcome, accepted, refused}
+use Rattle.orders.specs.declared.Counts.{Counts}
 use Rattle.std.specs.Prelude.{List, [], ◌∷◌, ◌++◌, ℕ, ◌+◌, length, replicate}
 use Rattle.definitions.specs.Limits.{cells, generator_limit, bare_limit}
 use Rattle.definitions.specs.Lists.{concat}
-use Rattle.orders.specs.declared.Scanned.{Scanned}
-use Rattle.orders.specs.declared.Scanned.TheVariants.{Counted, Refused}
 
 -- a line of the table
 pub record Example : Type 0 where
   pub file : List ℕ
-  pub found : Scanned
+  pub found : Outcome Counts
 
 -- a file that is refused
 abbrev refusal : (file : List ℕ) (number place : ℕ) → Example
-refusal file number place = record { file = file; found = Refused number place }
+refusal file number place = record { file = file; found = refused number place }
 
 -- generators of one cell
 abbrev generators : (count : ℕ) → List ℕ
@@ -61,11 +61,11 @@ for_list =
     ∷ refusal (0x01 ∷ 0x01 ∷ 0x00 ∷ 0x07 ∷ []) 4 3
     ∷ record {
       file = 0x01 ∷ 0x02 ∷ 0x02 ∷ 0x01 ∷ 0x00 ∷ 0xFF ∷ 0xFF ∷ 0x03 ∷ 0x02 ∷ 0x01 ∷ 0x00 ∷ [];
-      found = Counted (record { cells = 2; generators = 1; exchanges = 1; images = 0; rows = 0 });
+      found = accepted (record { cells = 2; generators = 1; exchanges = 1; images = 0; rows = 0 });
     }
     ∷ record {
       file = image_file ++ (0x07 ∷ 0x01 ∷ 0x00 ∷ 0x00 ∷ 0x00 ∷ 0x00 ∷ []);
-      found = Counted (record { cells = 1; generators = 1; exchanges = 2; images = 2; rows = 0 });
+      found = accepted (record { cells = 1; generators = 1; exchanges = 2; images = 2; rows = 0 });
     }
     ∷ []
 
@@ -82,7 +82,7 @@ for_split =
     ∷ refusal (0x01 ∷ 0x01 ∷ 0x06 ∷ 0x01 ∷ 0x00 ∷ 0x00 ∷ 0x00 ∷ 0x06 ∷ []) 3 7
     ∷ record {
       file = split_file;
-      found = Counted (record { cells = 2; generators = 1; exchanges = 0; images = 0; rows = 0 });
+      found = accepted (record { cells = 2; generators = 1; exchanges = 0; images = 0; rows = 0 });
     }
     ∷ []
 
@@ -99,6 +99,6 @@ for_check =
     ∷ refusal (0x01 ∷ 0x01 ∷ 0x05 ∷ []) 3 2
     ∷ record {
       file = check_file;
-      found = Counted (record { cells = 2; generators = 1; exchanges = 1; images = 0; rows = 1 });
+      found = accepted (record { cells = 2; generators = 1; exchanges = 1; images = 0; rows = 1 });
     }
     ∷ []

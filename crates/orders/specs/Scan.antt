@@ -1,4 +1,5 @@
 -- Specification 8.3: the scan of an order file. Assumes nothing.
+use Rattle.definitions.specs.Refusals.{Outcome, accepted, refused}
 use Rattle.std.specs.Prelude.{◌&&◌, List, ℕ, zero, suc, ◌*◌, ◌≤◌, length, drop, leb, ltb, if◌then◌else◌}
 use Rattle.definitions.specs.Limits.{cells, generator_limit, exchange_limit, list_limit, bare_limit}
 use Rattle.commands.specs.declared.Command.{Command}
@@ -12,8 +13,6 @@ use Rattle.orders.specs.declared.Service.{Service}
 use Rattle.orders.specs.declared.Phase.TheVariants.{Empty}
 use Rattle.orders.specs.declared.Counts.{Counts}
 use Rattle.orders.specs.declared.Progress.{Progress}
-use Rattle.orders.specs.declared.Scanned.{Scanned}
-use Rattle.orders.specs.declared.Scanned.TheVariants.{Counted, Refused}
 use Rattle.orders.specs.declared.Step.{Step}
 use Rattle.orders.specs.declared.Step.TheVariants.{Next, Stop}
 use Rattle.orders.specs.Grammar.{counted_by, is_image_due, may_stand, phase_after, too_many}
@@ -34,7 +33,7 @@ pub record Within (order : List ℕ) (s : Progress) : Type 0 where
 
 -- the scan is over, with a refusal
 abbrev pub refuse : (number place : ℕ) → Step
-refuse number place = Stop (Refused number place)
+refuse number place = Stop (refused number place)
 
 -- the progress past a command: its operands are skipped, and it is counted
 abbrev pub past_by : Progress → Command → Progress
@@ -64,7 +63,7 @@ sized_by t n =
 unfoldable pub passed : (order : List ℕ) → Progress → Command → Step
 passed order t (Size p) =
     let n = byte_at (drop p order) 0 in if leb 1 n && leb n cells then Next (sized_by t n) else refuse 5 0
-passed order t (End p) = if ltb p (length order) then refuse 4 p else Stop (Counted t.counts)
+passed order t (End p) = if ltb p (length order) then refuse 4 p else Stop (accepted t.counts)
 passed order t (Generator p) = Next t
 passed order t (Exchange p) = Next t
 passed order t (Row p) = Next t
@@ -93,13 +92,13 @@ unfoldable pub step_of : Service → (order : List ℕ) → Progress → Step
 step_of service order s = step_from service order s (command_at order s.at)
 
 -- the answer of a step that stops, else that of the rest
-unfoldable pub after : Step → (rest : Progress → Scanned) → Scanned
+unfoldable pub after : Step → (rest : Progress → Outcome Counts) → Outcome Counts
 after (Stop found) rest = found
 after (Next t) rest = rest t
 
 -- at most `fuel` commands
-unfoldable pub scan_from : (fuel : ℕ) → Service → (order : List ℕ) → Progress → Scanned
-scan_from zero service order s = Refused 0 0
+unfoldable pub scan_from : (fuel : ℕ) → Service → (order : List ℕ) → Progress → Outcome Counts
+scan_from zero service order s = refused 0 0
 scan_from (suc fuel) service order s = after (step_of service order s) (scan_from fuel service order)
 
 -- a command is due at offset 0, and nothing was counted
@@ -109,5 +108,5 @@ start =
     record { at = 0; phase = Empty; counts = none }
 
 -- 8.3: the scan of an order; each command takes a byte, so that the fuel suffices
-unfoldable pub scan_of : Service → (order : List ℕ) → Scanned
+unfoldable pub scan_of : Service → (order : List ℕ) → Outcome Counts
 scan_of service order = scan_from (suc (length order)) service order start

@@ -1,31 +1,43 @@
 -- The walk over the commands of an order that fills an area with the numbers of one kind. Assumes nothing.
-use Rattle.std.specs.Prelude.{◌≡◌, ◌⊎◌, List, ◌++◌, ℕ, ◌+◌, ◌*◌, ◌≤◌, ℤ, length, drop}
+use Rattle.std.specs.Prelude.{◌≡◌, ◌⊎◌, List, ◌++◌, map, ℕ, ◌+◌, ◌*◌, ◌≤◌, ℤ, length, drop}
 use Rattle.std.proofs.Math.Seq.{paste}
 use Rattle.vectors.specs.Areas.{LentMut}
 use Rattle.commands.specs.declared.Command.{Command}
-use Rattle.commands.specs.Commands.{exchange_code, code_of, operands_of, width_of}
+use Rattle.commands.specs.Commands.{code_of, operands_of, width_of}
+use Rattle.commands.specs.Decode.{byte_at, signed_at}
+use Rattle.definitions.specs.Lists.{range}
 use Rattle.orders.specs.declared.Counts.{Counts}
 use Rattle.orders.specs.declared.operands.Kind.{Kind}
-use Rattle.orders.specs.Operands.{commands_in, signed_numbers, byte_numbers, command_numbers, gathered}
+use Rattle.orders.specs.Operands.{commands_in, command_numbers, gathered}
 
--- the bytes that a signed number takes
+-- the bytes that a signed number takes, and those of a cell of an exchange
 abbrev pub SignedSize : (size : ℕ) → Type 0
 SignedSize size = (size ≡ 2) ⊎ (size ≡ 4)
 
+abbrev pub ByteSize : (size : ℕ) → Type 0
+ByteSize size = size ≡ 1
+
+-- number j of a part where each takes `size` bytes
+abbrev pub Reader : Type 0 → Type 0
+Reader A = (size : ℕ) (part : List ℕ) (j : ℕ) → A
+
+-- a signed one, and a cell of an exchange
+abbrev pub signed_number : Reader ℤ
+signed_number size part j = signed_at size part (size * j)
+
+abbrev pub byte_number : Reader ℕ
+byte_number size part j = byte_at part j
+
 -- the numbers of a command of a kind, in the part that starts at its operands
-abbrev pub signed_in : Kind → (part : List ℕ) → List ℤ
-signed_in kind = signed_numbers kind.size kind.count
+abbrev pub numbers_in : {A : Type 0} → Reader A → Kind → (part : List ℕ) → List A
+numbers_in number kind part = map (number kind.size part) (range 0 kind.count)
 
 -- those of a command of a kind in an order, and those of all of them
-abbrev pub kind_numbers : Kind → (order : List ℕ) → Command → List ℤ
-kind_numbers kind order command = command_numbers kind.code (signed_in kind) order command
+abbrev pub kind_numbers : {A : Type 0} → Reader A → Kind → (order : List ℕ) → Command → List A
+kind_numbers number kind order command = command_numbers kind.code (numbers_in number kind) order command
 
-abbrev pub kind_gathered : Kind → (order : List ℕ) → Counts → List ℤ
-kind_gathered kind order c = gathered kind.code (signed_in kind) order (commands_in order c)
-
--- the cells of an EXCHANGE
-abbrev pub cell_numbers : (count : ℕ) (order : List ℕ) → Command → List ℕ
-cell_numbers count order command = command_numbers exchange_code (byte_numbers count) order command
+abbrev pub kind_gathered : {A : Type 0} → Reader A → Kind → (order : List ℕ) → Counts → List A
+kind_gathered number kind order c = gathered kind.code (numbers_in number kind) order (commands_in order c)
 
 -- the operands of a command with the byte `code` have room for the numbers
 abbrev pub Holds : (code bytes count : ℕ) → Counts → Type 0

@@ -1,12 +1,11 @@
 // The numbers that an accepted order lends, read into lent areas by a walk over its commands (Specification 8.3). Those
 // of a command are decoded in the part of the order that starts at its operands (Specification 8.1).
-ghost use Rattle.std.specs.Prelude.{◌≡◌, ◌+◌, ◌≤◌, length};
-ghost use Rattle.commands.specs.Commands.{exchange_code};
+ghost use Rattle.std.specs.Prelude.{◌≡◌, ℕ, ◌+◌, ◌*◌, ◌≤◌, length};
 ghost use Rattle.commands.specs.Decode.{signed_at};
 ghost use Rattle.orders.specs.Operands.{Readable};
 ghost use Rattle.orders.specs.Operands.{generators_in, exchanges_in, images_in, rows_in, coefficients_in, vector_in};
-ghost use Rattle.orders.specs.Walk.{Filled, Holds, Inside, SignedSize, TakenIn};
-ghost use Rattle.orders.specs.Walk.{cell_numbers, kind_gathered, kind_numbers};
+ghost use Rattle.orders.specs.Walk.{ByteSize, Filled, Holds, Inside, Reader, SignedSize, TakenIn};
+ghost use Rattle.orders.specs.Walk.{byte_number, kind_gathered, kind_numbers, signed_number};
 
 use crate::Counts;
 use commands::{
@@ -14,7 +13,7 @@ use commands::{
     code_of, command_at, operands_of, short_at, word_at,
 };
 
-// The commands with a byte, and the signed numbers of each: `count` of them, of `size` bytes each.
+// The commands with a byte, and the numbers of each: `count` of them, of `size` bytes each.
 #[derive(Clone, Copy)]
 struct Kind {
     code: usize,
@@ -33,128 +32,106 @@ fn signed_at(part: &[u8], at: usize, size: usize) -> i32
     word_at(part, at)
 }
 
+// A number of an operand, as an area holds it.
+trait Number: Copy {
+    // How many bytes it may take in an order.
+    ghost has_size: { ℕ → Type 0 };
+
+    // Number j of a part of the order.
+    ghost number: { Reader Self };
+
+    // Reads number j of a part where each takes `size` bytes.
+    fn read(part: &[u8], size: usize, j: usize) -> Self
+        requires size { has_size size }
+        requires room { size * j + size ≤ length part.now }
+        ensures number { result ≡ number size part.now j };
+}
+
+impl Number for i32 {
+    ghost has_size = { SignedSize };
+
+    ghost number = { signed_number };
+
+    fn read(part: &[u8], size: usize, j: usize) -> i32 {
+        signed_at(part, size * j, size)
+    }
+}
+
+impl Number for i64 {
+    ghost has_size = { SignedSize };
+
+    ghost number = { signed_number };
+
+    fn read(part: &[u8], size: usize, j: usize) -> i64 {
+        i64::from(signed_at(part, size * j, size))
+    }
+}
+
+impl Number for u8 {
+    ghost has_size = { ByteSize };
+
+    ghost number = { byte_number };
+
+    fn read(part: &[u8], _size: usize, j: usize) -> u8 {
+        byte_at(part, j)
+    }
+}
+
 // The numbers of a command of a kind, into an area behind those that are filled; how many are filled then.
-fn take_numbers(
+fn take<T: Number>(
     order: &[u8],
     command: Command,
     kind: Kind,
     filled: usize,
-    area: &mut [i32],
+    area: &mut [T],
 ) -> usize
-    requires size { SignedSize kind.size }
+    requires size { T.has_size kind.size }
     requires inside { Inside order.now kind.code kind.size kind.count command }
-    requires room { filled + length (kind_numbers kind order.now command) ≤ length area.old }
-    ensures taken { TakenIn (kind_numbers kind order.now command) filled area result }
+    requires room { filled + length (kind_numbers T.number kind order.now command) ≤ length area.old }
+    ensures taken { TakenIn (kind_numbers T.number kind order.now command) filled area result }
 {
     if code_of(command) != kind.code {
         return filled;
     }
-    let from = operands_of(command);
-    let part = &order[from..];
-    let mut j = 0;
-    while j < kind.count {
-        area[filled + j] = signed_at(part, kind.size * j, kind.size);
-        j += 1;
-    }
-    filled + kind.count
-}
-
-// The cells of an EXCHANGE, likewise.
-fn take_bytes(order: &[u8], command: Command, count: usize, filled: usize, area: &mut [u8]) -> usize
-    requires inside { Inside order.now exchange_code 1 count command }
-    requires room { filled + length (cell_numbers count order.now command) ≤ length area.old }
-    ensures taken { TakenIn (cell_numbers count order.now command) filled area result }
-{
-    if code_of(command) != EXCHANGE {
-        return filled;
-    }
-    let from = operands_of(command);
-    let part = &order[from..];
-    let mut j = 0;
-    while j < count {
-        area[filled + j] = byte_at(part, j);
-        j += 1;
-    }
-    filled + count
-}
-
-// The numbers of a command of a kind, likewise, into an area of wide numbers.
-fn take_wide(order: &[u8], command: Command, kind: Kind, filled: usize, area: &mut [i64]) -> usize
-    requires size { SignedSize kind.size }
-    requires inside { Inside order.now kind.code kind.size kind.count command }
-    requires room { filled + length (kind_numbers kind order.now command) ≤ length area.old }
-    ensures taken { TakenIn (kind_numbers kind order.now command) filled area result }
-{
-    if code_of(command) != kind.code {
-        return filled;
-    }
-    let from = operands_of(command);
-    let part = &order[from..];
-    let mut j = 0;
-    while j < kind.count {
-        area[filled + j] = signed_at(part, kind.size * j, kind.size) as i64;
-        j += 1;
+    let part = &order[operands_of(command)..];
+    for j in 0..kind.count {
+        area[filled + j] = T::read(part, kind.size, j);
     }
     filled + kind.count
 }
 
 // The numbers of all commands of a kind, into an area.
-fn read_numbers(order: &[u8], c: Counts, kind: Kind, area: &mut [i32])
+fn read<T: Number>(order: &[u8], c: Counts, kind: Kind, area: &mut [T])
     requires readable { Readable order.now c }
-    requires kind { SignedSize kind.size × Holds kind.code kind.size kind.count c }
-    requires room { length (kind_gathered kind order.now c) ≤ length area.old }
-    ensures read { Filled (kind_gathered kind order.now c) area }
+    requires kind { T.has_size kind.size × Holds kind.code kind.size kind.count c }
+    requires room { length (kind_gathered T.number kind order.now c) ≤ length area.old }
+    ensures read { Filled (kind_gathered T.number kind order.now c) area }
 {
     let mut at = 0;
     let mut filled = 0;
-    loop {
-        let reading = command_at(order, at);
-        let Reading::Known(command) = reading else {
-            return;
-        };
-        filled = take_numbers(order, command, kind, filled, &mut *area);
+    while let Reading::Known(command) = command_at(order, at) {
+        filled = take(order, command, kind, filled, area);
         at = behind(order, command, c.cells, c.generators);
     }
 }
 
 // The cells of the exchanges, into an area.
+#[tactic(auto, unfolding(crate::specs::Operands::exchanges_in))]
 pub fn read_exchanges(order: &[u8], c: Counts, area: &mut [u8])
     requires readable { Readable order.now c }
     requires room { length (exchanges_in order.now c) ≤ length area.old }
     ensures read { Filled (exchanges_in order.now c) area }
 {
-    let mut at = 0;
-    let mut filled = 0;
-    loop {
-        let reading = command_at(order, at);
-        let Reading::Known(command) = reading else {
-            return;
-        };
-        filled = take_bytes(order, command, c.cells, filled, &mut *area);
-        at = behind(order, command, c.cells, c.generators);
-    }
-}
-
-// The numbers of all commands of a kind, into an area of wide numbers.
-fn read_wide(order: &[u8], c: Counts, kind: Kind, area: &mut [i64])
-    requires readable { Readable order.now c }
-    requires kind { SignedSize kind.size × Holds kind.code kind.size kind.count c }
-    requires room { length (kind_gathered kind order.now c) ≤ length area.old }
-    ensures read { Filled (kind_gathered kind order.now c) area }
-{
-    let mut at = 0;
-    let mut filled = 0;
-    loop {
-        let reading = command_at(order, at);
-        let Reading::Known(command) = reading else {
-            return;
-        };
-        filled = take_wide(order, command, kind, filled, &mut *area);
-        at = behind(order, command, c.cells, c.generators);
-    }
+    let kind = Kind {
+        code: EXCHANGE,
+        size: 1,
+        count: c.cells,
+    };
+    read(order, c, kind, area);
 }
 
 // The coefficients of the images, into an area.
+#[tactic(auto, unfolding(crate::specs::Operands::images_in))]
 pub fn read_images(order: &[u8], c: Counts, area: &mut [i64])
     requires readable { Readable order.now c }
     requires room { length (images_in order.now c) ≤ length area.old }
@@ -165,10 +142,11 @@ pub fn read_images(order: &[u8], c: Counts, area: &mut [i64])
         size: 4,
         count: c.generators,
     };
-    read_wide(order, c, kind, area);
+    read(order, c, kind, area);
 }
 
 // The coefficients of the rows, into an area.
+#[tactic(auto, unfolding(crate::specs::Operands::coefficients_in))]
 pub fn read_coefficients(order: &[u8], c: Counts, area: &mut [i64])
     requires readable { Readable order.now c }
     requires room { length (coefficients_in order.now c) ≤ length area.old }
@@ -179,10 +157,11 @@ pub fn read_coefficients(order: &[u8], c: Counts, area: &mut [i64])
         size: 4,
         count: c.generators,
     };
-    read_wide(order, c, kind, area);
+    read(order, c, kind, area);
 }
 
 // The numbers of the generators, into an area.
+#[tactic(auto, unfolding(crate::specs::Operands::generators_in))]
 pub fn read_generators(order: &[u8], c: Counts, area: &mut [i32])
     requires readable { Readable order.now c }
     requires room { length (generators_in order.now c) ≤ length area.old }
@@ -193,10 +172,11 @@ pub fn read_generators(order: &[u8], c: Counts, area: &mut [i32])
         size: 2,
         count: c.cells,
     };
-    read_numbers(order, c, kind, area);
+    read(order, c, kind, area);
 }
 
 // The numbers of the rows, into an area.
+#[tactic(auto, unfolding(crate::specs::Operands::rows_in))]
 pub fn read_rows(order: &[u8], c: Counts, area: &mut [i32])
     requires readable { Readable order.now c }
     requires room { length (rows_in order.now c) ≤ length area.old }
@@ -207,10 +187,11 @@ pub fn read_rows(order: &[u8], c: Counts, area: &mut [i32])
         size: 2,
         count: c.cells,
     };
-    read_numbers(order, c, kind, area);
+    read(order, c, kind, area);
 }
 
 // The numbers of the vector, into an area.
+#[tactic(auto, unfolding(crate::specs::Operands::vector_in))]
 pub fn read_vector(order: &[u8], c: Counts, area: &mut [i32])
     requires readable { Readable order.now c }
     requires room { length (vector_in order.now c) ≤ length area.old }
@@ -221,5 +202,5 @@ pub fn read_vector(order: &[u8], c: Counts, area: &mut [i32])
         size: 4,
         count: c.cells,
     };
-    read_numbers(order, c, kind, area);
+    read(order, c, kind, area);
 }

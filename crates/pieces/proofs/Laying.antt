@@ -5,7 +5,7 @@ use mathlib.Core.List.{List, [], ◌∷◌, ◌++◌, map, append_assoc, append-
 use Prim.Native.Nat.{ℕ, suc, ◌+◌, ◌-◌, ◌*◌, ◌/◌, ◌≤◌, ◌<◌}
 use native.Mathlib.Nat.{add-zero, suc-mul, le-div_iff_mul-le}
 use native.Mathlib.Omega.{arith}
-use borrow.Author.Tests.{lt-ltb, le-ltb}
+use borrow.Author.Tests.{lt-ltb}
 use lib.IntN.{ℤ, pos}
 use lib.ListN.{length, drop, replicate, length-append, length-replicate, replicate-append-replicate}
 use lib.Seq.{paste, take_all, take_at, drop_at}
@@ -26,16 +26,13 @@ laid-append area count (piece ∷ pieces) others =
     let e : suc count + length pieces ≡ count + suc (length pieces) = omega arith in
     laid-append next (suc count) pieces others ∙ ap (λ (k : ℕ). laid (laid next (suc count) pieces) k others) e
 
--- ---- one piece, with room for it and without
+-- ---- one piece, with room for it
 module _ (area : List ℤ) (count : ℕ) (numbers : List ℤ) where
   abbrev pasted : List ℤ
   pasted = paste area (count * piece_width) numbers piece_width
 
-  pub with-room : count < length area / piece_width → pasted ≡ with_numbers area count numbers
+  with-room : count < length area / piece_width → pasted ≡ with_numbers area count numbers
   with-room h = ap (λ (b : Bool). cond b pasted area) (sym (lt-ltb count (length area / piece_width) h))
-
-  pub without-room : length area / piece_width ≤ count → area ≡ with_numbers area count numbers
-  without-room h = ap (λ (b : Bool). cond b pasted area) (sym (le-ltb count (length area / piece_width) h))
 
 -- ---- an area that had zeros behind its numbers
 

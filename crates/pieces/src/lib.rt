@@ -46,10 +46,8 @@ fn less_multiple(v: [i32; CELLS], u: [i32; CELLS], count: u64) -> [i32; CELLS]
 {
     let factor = count as i32;
     let mut w = [0; CELLS];
-    let mut i = 0;
-    while i < CELLS {
+    for i in 0..CELLS {
         w[i] = v[i] - factor * u[i];
-        i += 1;
     }
     w
 }
@@ -131,13 +129,10 @@ fn take_row(
     ensures taken { TakesTo pieces (placed_orbit row 0 (sequences_in shape table.now) v) t result }
 {
     let mut taken = t;
-    let mut p = 0;
-    while p < shape.g {
+    for p in 0..shape.g {
         let image = image_at(v, table, shape, p);
         let place = Place { row, position: p };
-        let next = take_both(taken, image, place, pieces);
-        taken = next;
-        p += 1;
+        taken = take_both(taken, image, place, pieces);
     }
     taken
 }
@@ -157,12 +152,9 @@ fn take_rows(
 {
     let n = shape.n;
     let mut taken = t;
-    let mut i = 0;
-    while i < k {
+    for i in 0..k {
         let row = load(list, i * n, n);
-        let next = take_row(taken, row, i, table, shape, pieces);
-        taken = next;
-        i += 1;
+        taken = take_row(taken, row, i, table, shape, pieces);
     }
     taken
 }
@@ -181,7 +173,7 @@ pub fn split_rows(
     requires limited { within split_limit v ≡ true }
     ensures split { SplitsTo pieces (images_in shape k table.now list.now) v result }
 {
-    clear(pieces, 0);
+    clear(pieces, 0, 0);
     let whole = Taken { rest: v, count: 0 };
     take_rows(whole, list, k, table, shape, pieces)
 }

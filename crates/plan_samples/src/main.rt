@@ -8,8 +8,8 @@
 
 ghost use Rattle.std.specs.Prelude.{◌≤◌, length};
 
-use definitions::Planned;
 use definitions::limits::{BOUND_LIMIT, BUDGET_LIMIT, COST_LIMIT};
+use definitions::{Planned, Refusal};
 use plans::plan;
 use sample_texts::{show_area, show_group, show_head};
 
@@ -22,30 +22,34 @@ const NO_IMAGES: [i64; 0] = [];
 // ---- printing
 
 // Prints an answer.
-fn show_planned(planned: Planned) {
+fn show_planned(planned: Result<Planned, Refusal>) {
     match planned {
-        Planned::Cheapest {
-            steps,
-            rows,
-            members,
-            stored,
-            sums,
-        } => {
+        Ok(
+            Planned::Cheapest {
+                steps,
+                rows,
+                members,
+                stored,
+                sums,
+            },
+        ) => {
             let counts = [steps, rows, members, stored, sums];
             show_head(b"CHEAPEST", &counts);
         }
-        Planned::Spent {
-            steps,
-            bound,
-            rows,
-            members,
-            stored,
-            sums,
-        } => {
+        Ok(
+            Planned::Spent {
+                steps,
+                bound,
+                rows,
+                members,
+                stored,
+                sums,
+            },
+        ) => {
             let counts = [steps, bound, rows, members, stored, sums];
             show_head(b"SPENT", &counts);
         }
-        Planned::Refused { number, place } => {
+        Err(Refusal { number, place }) => {
             let counts = [number, place];
             show_head(b"REFUSED", &counts);
         }

@@ -1,13 +1,13 @@
 -- HOW A PLAN CALL ENDS (Specification 3.10): by a refusal, or where the descent by the images of its list ends.
 -- Assumes nothing.
+use Rattle.std.specs.declared.result.Result.TheVariants.{Err}
+use Rattle.definitions.specs.Refusals.{Fault, no_fault}
 use mathlib.Core.Path.{◌≡◌, refl}
 use Prim.Native.Nat.{ℕ}
-use Rattle.definitions.specs.declared.Fault.{Fault}
-use Rattle.definitions.specs.declared.Fault.TheVariants.{None, At}
 use Rattle.definitions.specs.Vector.{padded}
 use Rattle.definitions.specs.Orbit.{orbits}
 use Rattle.definitions.specs.Lent.{Order}
-use Rattle.definitions.specs.Refusals.{Outcome, accepted, refused}
+use Rattle.definitions.specs.Refusals.{Outcome, accepted}
 use Rattle.definitions.specs.Calls.{Listing, listing}
 use Rattle.definitions.specs.Plan.{PlanEnd, PlanRoom, Problem, Stage, descended_end, descent, plan_call, plan_of}
 use Rattle.definitions.specs.Plan.{plan_reached, plan_refused, problem_fault, terms_of}
@@ -27,13 +27,13 @@ module _ (order : Order) (problem : Problem) (room : PlanRoom) (P : PlanEnd → 
       → (fault : Fault) → problem_fault order.n problem room.plan ≡ fault
       → P (descended_end order.n problem room found fault)
   unfolding descended_end
-  tested-ends found e None f = at-descent found e (problem-sound order.n problem room.plan f)
-  tested-ends found e (At number place) f = at-refusal number place
+  tested-ends found e no_fault f = at-descent found e (problem-sound order.n problem room.plan f)
+  tested-ends found e (Err r) f = at-refusal r.number r.place
 
   listed-ends : (o : Outcome Listing) → listing order room.list room.group ≡ o
       → P (plan_of order.n problem room o)
   unfolding plan_of
-  listed-ends (refused number place) e = at-refusal number place
+  listed-ends (Err r) e = at-refusal r.number r.place
   listed-ends (accepted found) e = tested-ends found e (problem_fault order.n problem room.plan) refl
 
   -- WHAT HOLDS OF BOTH ENDS holds of the call

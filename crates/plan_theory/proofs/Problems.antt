@@ -1,4 +1,5 @@
 -- What a problem gives that meets none of the tests 6, 26 and 27 (Specification 3.10 and 7.3). Assumes nothing.
+use Rattle.definitions.specs.Refusals.{no_fault}
 use mathlib.Core.Path.{◌≡◌, refl, sym, ◌∙◌, ap, subst}
 use mathlib.Core.Bool.{Bool, true, false, ◌&&◌, not}
 use mathlib.Core.List.{List, [], ◌∷◌, ◌++◌}
@@ -8,7 +9,6 @@ use borrow.Author.Tests.{eqb-true, leb-true, not-false}
 use lib.Dec.{eqb, leb}
 use lib.IntN.{ℤ, pos, negsuc, nat_abs}
 use lib.ListN.{length, get_or, replicate}
-use Rattle.definitions.specs.declared.Fault.TheVariants.{None}
 use Rattle.definitions.specs.Limits.{bound_limit, budget_limit, cells, cost_limit}
 use Rattle.definitions.specs.Vector.{padded, within}
 use Rattle.definitions.specs.Plan.{Problem, feasible, is_bounded, is_misplanned, problem_fault, problem_fits}
@@ -110,7 +110,7 @@ module _ (problem : Problem) (same : length problem.start ≡ length problem.upp
       (λ p l. entry-fits problem p (all p l)))
 
 -- A PROBLEM THAT MEETS NO TEST is sound
-pub problem-sound : (n : ℕ) (problem : Problem) (plan_size : ℕ) → problem_fault n problem plan_size ≡ None
+pub problem-sound : (n : ℕ) (problem : Problem) (plan_size : ℕ) → problem_fault n problem plan_size ≡ no_fault
     → Sound n problem plan_size
 unfolding problem_fault
 problem-sound n problem plan_size e =

@@ -1,5 +1,6 @@
 -- TWO PLAN CALLS whose problems differ in one cost (Specification 3.11): the totals of two cheapest plans differ by at
 -- most |d| times the upper bound of the cell. Assumes nothing.
+use Rattle.definitions.specs.Refusals.{Outcome}
 use mathlib.Core.Path.{◌≡◌, refl, sym, ◌∙◌, ap, subst}
 use mathlib.Core.Logic.{◌⊎◌, inl, inr}
 use mathlib.Core.Bool.{true, false}
@@ -203,7 +204,7 @@ module _ (order : Order) (problem : Problem) (room : PlanRoom) where
   reached-kept found e S says =
       let F = listing-facts order room.list room.group found e in
       let held = sym (descent-held F problem S.sized.start S.begins room.plan S.sized.room) in
-      if-cases (λ (a : Planned). says_cheapest a ≡ true → CheapestPlan order problem (reached found))
+      if-cases (λ (a : Outcome Planned). says_cheapest a ≡ true → CheapestPlan order problem (reached found))
       (is_cheapest (terms_of problem) (orbits found.table found.rows) (last_stage problem found))
       (λ t _. record {
         attained = subst (Attainable order problem) held (descent-attained F problem S.sized.start S.begins);

@@ -1,7 +1,9 @@
 -- Specification 3.11: two plan calls whose problems differ in one cost. Assumes nothing.
+use Rattle.definitions.specs.Refusals.{Outcome, accepted}
+use Rattle.std.specs.declared.result.Result.TheVariants.{Err}
 use Rattle.std.specs.Prelude.{◌≡◌, Bool, true, false, List, ℕ, ◌*◌, ◌≤◌, ℤ, pos, nat_abs, ◌+ℤ◌, ◌-ℤ◌, get_or, set}
 use Rattle.definitions.specs.declared.Planned.{Planned}
-use Rattle.definitions.specs.declared.Planned.TheVariants.{Cheapest, Spent, Refused}
+use Rattle.definitions.specs.declared.Planned.TheVariants.{Cheapest, Spent}
 use Rattle.definitions.specs.Vector.{padded}
 use Rattle.definitions.specs.Lent.{Order}
 use Rattle.definitions.specs.Plan.{PlanRoom, Problem, plan_call}
@@ -19,10 +21,10 @@ pub record IsPerturbed (problem problem' : Problem) (cell : ℕ) (d : ℤ) : Typ
   pub costs : problem'.costs ≡ perturbed problem.costs cell d
 
 -- the answer is Cheapest
-unfoldable pub says_cheapest : Planned → Bool
-says_cheapest (Cheapest steps rows members stored sums) = true
-says_cheapest (Spent steps bound rows members stored sums) = false
-says_cheapest (Refused number place) = false
+unfoldable pub says_cheapest : Outcome Planned → Bool
+says_cheapest (accepted (Cheapest steps rows members stored sums)) = true
+says_cheapest (accepted (Spent steps bound rows members stored sums)) = false
+says_cheapest (Err r) = false
 
 -- the total of a call: the cost, under its own costs, of the plan in its plan area
 unfoldable pub call_total : Order → Problem → PlanRoom → ℤ

@@ -1,4 +1,6 @@
 -- How the search for the best plan ends, once its list is there (Specification 3.10 and 7.4). Assumes nothing.
+use Rattle.definitions.specs.Refusals.{Outcome}
+use Rattle.definitions.specs.Refusals.{no_fault, fault_at}
 use Rattle.std.specs.Prelude.{if◌then◌else◌}
 use mathlib.Core.Path.{◌≡◌, refl, sym, ap, ap₂, ◌∙◌}
 use mathlib.Core.List.{List, [], ◌++◌}
@@ -9,7 +11,6 @@ use lib.Dec.{eqb}
 use lib.IntN.{ℤ, pos}
 use lib.ListN.{length, take, drop, replicate, drop_of_length-le}
 use lib.Seq.{length-take-le, paste}
-use Rattle.definitions.specs.declared.Fault.TheVariants.{None, At}
 use Rattle.definitions.specs.declared.Planned.{Planned}
 use Rattle.definitions.specs.declared.Planned.TheVariants.{Cheapest, Spent}
 use Rattle.definitions.specs.declared.Terms.{Terms}
@@ -36,13 +37,13 @@ use Rattle.plans.specs.Found.{Measured, PlanEnds, planned_in}
 
 -- 6, 26 and 27, once the List has ended
 module _ (n : ℕ) (problem : Problem) (room : PlanRoom) (found : Listing) where
-  pub tests-met : {number place : ℕ} → problem_fault n problem room.plan ≡ At number place
+  pub tests-met : {number place : ℕ} → problem_fault n problem room.plan ≡ fault_at number place
       → plan_refused room number place ≡ plan_of n problem room (accepted found)
   unfolding plan_of descended_end
   tests-met e = rw e refl
 
-  pub tests-unmet : problem_fault n problem room.plan ≡ None
-      → descended_end n problem room found None ≡ plan_of n problem room (accepted found)
+  pub tests-unmet : problem_fault n problem room.plan ≡ no_fault
+      → descended_end n problem room found no_fault ≡ plan_of n problem room (accepted found)
   unfolding plan_of
   tests-unmet e = rw e refl
 
@@ -59,7 +60,7 @@ module _ (order : Order) (problem : Problem) (room : PlanRoom) where
   call-listed e = ap (plan_of order.n problem room) e
 
 -- the same end by another name
-pub ends_same : {due due' : PlanEnd} {answer : Planned} {list : List ℤ} {group : List ℕ} {plan : List ℤ} → due ≡ due'
+pub ends_same : {due due' : PlanEnd} {answer : Outcome Planned} {list : List ℤ} {group : List ℕ} {plan : List ℤ} → due ≡ due'
     → PlanEnds due answer list group plan → PlanEnds due' answer list group plan
 ends_same e E = record {
   answer_is = E.answer_is ∙ ap (λ (d : PlanEnd). d.answer) e;
@@ -115,10 +116,10 @@ module _ (n : ℕ) (numbers : Numbers) (problem : Problem) (list : List ℤ) (gr
   last = descent terms (images_in extent group list) problem.budget (padded problem.start)
 
   module _ {end : Descent} (D : DescendsTo terms extent group list problem.budget (padded problem.start) end) where
-    abbrev answered : (gain rows members : ℕ) → Planned
+    abbrev answered : (gain rows members : ℕ) → Outcome Planned
     answered gain rows members =
-        if eqb gain 0 then Cheapest end.steps rows members numbers.stored numbers.sums
-        else Spent end.steps (gain * reach terms.upper end.plan) rows members numbers.stored numbers.sums
+        if eqb gain 0 then accepted (Cheapest end.steps rows members numbers.stored numbers.sums)
+        else accepted (Spent end.steps (gain * reach terms.upper end.plan) rows members numbers.stored numbers.sums)
 
     -- what is answered is what is due
     planned-is : planned_in terms numbers end ≡ planned_at terms found last
@@ -130,7 +131,7 @@ module _ (n : ℕ) (numbers : Numbers) (problem : Problem) (list : List ℤ) (gr
     -- THE END of a descent, with its plan in the plan area
     pub descended-ends : (room : PlanRoom) → Held n numbers list group → length list ≡ room.list → length group ≡ room.group
         → Planning terms (padded problem.start) → (area : List ℤ) → length area ≡ room.plan → room.plan ≡ n → {plan : List ℤ}
-        → plan ≡ paste area 0 end.plan n → PlanEnds (descended_end n problem room found None) (planned_in terms numbers end) list group plan
+        → plan ≡ paste area 0 end.plan n → PlanEnds (descended_end n problem room found no_fault) (planned_in terms numbers end) list group plan
     unfolding descended_end plan_reached
     descended-ends room H long wide P area size whole e = record {
       answer_is = planned-is;

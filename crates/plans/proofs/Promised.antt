@@ -1,4 +1,5 @@
 -- What the end of the search for the best plan promises (Specification 1.1, 3.10, 7.4 and 11). Assumes nothing.
+use Rattle.definitions.specs.Refusals.{Outcome, refused}
 use mathlib.Core.Path.{◌≡◌, sym, ◌∙◌, ap, subst}
 use mathlib.Core.Bool.{true, false}
 use mathlib.Core.List.{List, []}
@@ -7,7 +8,7 @@ use native.Mathlib.Omega.{arith}
 use lib.IntN.{ℤ, pos}
 use lib.ListN.{length, replicate, take}
 use Rattle.definitions.specs.declared.Planned.{Planned}
-use Rattle.definitions.specs.declared.Planned.TheVariants.{Cheapest, Spent, Refused}
+use Rattle.definitions.specs.declared.Planned.TheVariants.{Cheapest, Spent}
 use Rattle.definitions.specs.Lists.{concat}
 use Rattle.definitions.specs.Vector.{Vector, padded}
 use Rattle.definitions.specs.Orbit.{orbits}
@@ -32,15 +33,15 @@ cleared : {A : Type 0} (blank : A) {xs : List A} (size : ℕ) → length xs ≡ 
 cleared blank size long e = e ∙ filled-nothing blank size ∙ ap (λ (k : ℕ). replicate k blank) (sym long)
 
 -- what a reader may conclude from the answer
-record Concluded (order : Order) (problem : Problem) (answer : Planned) (list : List ℤ) (group : List ℕ) (plan : List ℤ)
+record Concluded (order : Order) (problem : Problem) (answer : Outcome Planned) (list : List ℤ) (group : List ℕ) (plan : List ℤ)
     : Type 0 where
-  cheapest : (steps rows members stored sums : ℕ) → answer ≡ Cheapest steps rows members stored sums
+  cheapest : (steps rows members stored sums : ℕ) → answer ≡ accepted (Cheapest steps rows members stored sums)
       → CheapestReached order problem answer list group plan
-  spent : (steps bound rows members stored sums : ℕ) → answer ≡ Spent steps bound rows members stored sums
+  spent : (steps bound rows members stored sums : ℕ) → answer ≡ accepted (Spent steps bound rows members stored sums)
       → BudgetSpent order problem answer list group plan
-  refused : (number place : ℕ) → answer ≡ Refused number place → PlanZero list group plan
+  refused : (number place : ℕ) → answer ≡ refused number place → PlanZero list group plan
 
-module _ (order : Order) (problem : Problem) (room : PlanRoom) (answer : Planned) (list : List ℤ) (group : List ℕ)
+module _ (order : Order) (problem : Problem) (room : PlanRoom) (answer : Outcome Planned) (list : List ℤ) (group : List ℕ)
     (plan : List ℤ) where
   abbrev Conclusion : Type 0
   Conclusion = Concluded order problem answer list group plan
@@ -94,7 +95,7 @@ module _ (order : Order) (problem : Problem) (room : PlanRoom) (answer : Planned
 
         -- no image gains
         cheapest-concluded : is_cheapest (terms_of problem) images s ≡ true
-            → answer ≡ Cheapest s.steps (length found.rows) (length found.table) found.stored found.sums
+            → answer ≡ accepted (Cheapest s.steps (length found.rows) (length found.table) found.stored found.sums)
             → Conclusion
         unfolding held
         cheapest-concluded t says = record {
@@ -114,9 +115,9 @@ module _ (order : Order) (problem : Problem) (room : PlanRoom) (answer : Planned
         abbrev distance : ℕ
         distance = distance_bound (terms_of problem) images s.plan
 
-        abbrev spent_in : (steps : ℕ) → Planned
+        abbrev spent_in : (steps : ℕ) → Outcome Planned
         spent_in steps =
-            Spent steps distance (length found.rows) (length found.table) found.stored found.sums
+            accepted (Spent steps distance (length found.rows) (length found.table) found.stored found.sums)
 
         spent-concluded : is_cheapest (terms_of problem) images s ≡ false → answer ≡ spent_in s.steps → Conclusion
         unfolding held
@@ -137,12 +138,12 @@ module _ (order : Order) (problem : Problem) (room : PlanRoom) (answer : Planned
       reached-concluded : Concludes (plan_reached order.n room (terms_of problem) found s)
       unfolding plan_reached planned_at
       reached-concluded says p q r =
-          if-cases (λ (a : Planned). answer ≡ a → Conclusion) (is_cheapest (terms_of problem) images s)
+          if-cases (λ (a : Outcome Planned). answer ≡ a → Conclusion) (is_cheapest (terms_of problem) images s)
           (cheapest-concluded p q r) (spent-concluded p q r) says
 
 -- A PLAN KEEPS ITS PROMISE
 pub plan-promise : (order : Order) (problem : Problem) (room : PlanRoom)
-    {answer : Planned} {list : List ℤ} {group : List ℕ} {plan : List ℤ}
+    {answer : Outcome Planned} {list : List ℤ} {group : List ℕ} {plan : List ℤ}
     → answer ≡ (plan_call order problem room).answer → list ≡ (plan_call order problem room).list
     → group ≡ (plan_call order problem room).group → plan ≡ (plan_call order problem room).plan
     → length list ≡ room.list → length group ≡ room.group → length plan ≡ room.plan

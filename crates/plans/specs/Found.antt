@@ -1,6 +1,7 @@
 -- What the parts of the search for the best plan find, by the definitions (Specification 3.10). Assumes nothing.
+use Rattle.definitions.specs.Refusals.{Outcome}
+use Rattle.definitions.specs.Refusals.{no_fault}
 use Rattle.std.specs.Prelude.{◌≡◌, true, List, ℕ, ◌*◌, ◌^◌, ◌≤◌, ◌<◌, eqb, ℤ, length, if◌then◌else◌}
-use Rattle.definitions.specs.declared.Fault.TheVariants.{None}
 use Rattle.definitions.specs.declared.Planned.{Planned}
 use Rattle.definitions.specs.declared.Planned.TheVariants.{Cheapest, Spent}
 use Rattle.definitions.specs.declared.Terms.{Terms}
@@ -17,7 +18,7 @@ use Rattle.descents.specs.declared.Descent.{Descent}
 use Rattle.plans.specs.Promise.{room_in}
 
 -- the search ended as was due: its answer and its areas
-pub record PlanEnds (due : PlanEnd) (answer : Planned) (list : List ℤ) (group : List ℕ) (plan : List ℤ) : Type 0 where
+pub record PlanEnds (due : PlanEnd) (answer : Outcome Planned) (list : List ℤ) (group : List ℕ) (plan : List ℤ) : Type 0 where
   pub answer_is : answer ≡ due.answer
   pub list_holds : list ≡ due.list
   pub group_holds : group ≡ due.group
@@ -25,7 +26,7 @@ pub record PlanEnds (due : PlanEnd) (answer : Planned) (list : List ℤ) (group 
 
 -- .. in lent areas
 abbrev pub PlanEndsIn : (due : PlanRoom → PlanEnd) (list : LentMut ℤ) (group : LentMut ℕ) (plan : LentMut ℤ)
-    (answer : Planned) → Type 0
+    (answer : Outcome Planned) → Type 0
 PlanEndsIn due list group plan answer =
     PlanEnds (due (room_in list group plan)) answer list.exit.now group.exit.now plan.exit.now
 
@@ -42,11 +43,11 @@ pub record Measured (terms : Terms) (end : Descent) : Type 0 where
   pub fits : end.gain * reach terms.upper end.plan < 2 ^ 64
 
 -- what is answered where a descent has ended
-abbrev pub planned_in : Terms → Numbers → Descent → Planned
+abbrev pub planned_in : Terms → Numbers → Descent → Outcome Planned
 planned_in terms found end =
-    if eqb end.gain 0 then Cheapest end.steps found.rows found.members found.stored found.sums
-    else Spent end.steps (end.gain * reach terms.upper end.plan)
-    found.rows found.members found.stored found.sums
+    if eqb end.gain 0 then accepted (Cheapest end.steps found.rows found.members found.stored found.sums)
+    else accepted (Spent end.steps (end.gain * reach terms.upper end.plan)
+    found.rows found.members found.stored found.sums)
 
 -- the list that the areas hold
 abbrev pub listed_in : (n : ℕ) → Numbers → (list : LentMut ℤ) (group : LentMut ℕ) → Listing
@@ -58,10 +59,10 @@ tested n found problem list group room = plan_of n problem room (accepted (liste
 
 -- .. the descent alone
 abbrev pub descended : (n : ℕ) → Numbers → Problem → (list : LentMut ℤ) (group : LentMut ℕ) (room : PlanRoom) → PlanEnd
-descended n found problem list group room = descended_end n problem room (listed_in n found list group) None
+descended n found problem list group room = descended_end n problem room (listed_in n found list group) no_fault
 
 -- 6, 26 and 27 are not met
 abbrev pub Fitting : (n : ℕ) (start upper costs : List ℤ) (budget : ℕ) (plan : List ℤ) → Type 0
 Fitting n start upper costs budget plan =
     let problem : Problem = record { start = start; upper = upper; costs = costs; budget = budget } in
-    problem_fault n problem (length plan) ≡ None
+    problem_fault n problem (length plan) ≡ no_fault

@@ -1,8 +1,10 @@
 -- What the search for the best plan within a budget promises, for every input (Specification 1.1, 3.10, 7.4 and 11).
 -- Assumes nothing.
+use Rattle.std.specs.declared.result.Result.TheVariants.{Ok}
+use Rattle.definitions.specs.Refusals.{Outcome, accepted, refused}
 use Rattle.std.specs.Prelude.{◌≡◌, List, ℕ, ◌≤◌, ℤ, pos, length, replicate}
 use Rattle.definitions.specs.declared.Planned.{Planned}
-use Rattle.definitions.specs.declared.Planned.TheVariants.{Cheapest, Spent, Refused}
+use Rattle.definitions.specs.declared.Planned.TheVariants.{Cheapest, Spent}
 use Rattle.definitions.specs.Lists.{concat}
 use Rattle.definitions.specs.Vector.{padded}
 use Rattle.definitions.specs.Lent.{Order, filled, numbers_of}
@@ -23,24 +25,24 @@ pub record PlanAccepted (order : Order) (problem : Problem) (list : List ℤ) (g
   pub attained : Attainable order problem (padded plan)
 
 -- no plan within the bounds that differs from the start by a lattice vector is cheaper
-pub record CheapestReached (order : Order) (problem : Problem) (answer : Planned) (list : List ℤ) (group : List ℕ)
+pub record CheapestReached (order : Order) (problem : Problem) (answer : Outcome Planned) (list : List ℤ) (group : List ℕ)
     (plan : List ℤ) : Type 0 where
   pub accepted : PlanAccepted order problem list group plan
   pub steps : ℕ
   pub few : steps ≤ problem.budget
   pub says : answer
-      ≡ Cheapest steps (length accepted.found.rows) (length accepted.found.table) accepted.found.stored
-      accepted.found.sums
+      ≡ Ok (Cheapest steps (length accepted.found.rows) (length accepted.found.table) accepted.found.stored
+      accepted.found.sums)
   pub cheapest : NoneCheaper order problem (padded plan)
 
 -- the budget is spent: some such plan is cheaper, and none is cheaper by more than the bound
-pub record BudgetSpent (order : Order) (problem : Problem) (answer : Planned) (list : List ℤ) (group : List ℕ)
+pub record BudgetSpent (order : Order) (problem : Problem) (answer : Outcome Planned) (list : List ℤ) (group : List ℕ)
     (plan : List ℤ) : Type 0 where
   pub accepted : PlanAccepted order problem list group plan
   pub bound : ℕ
   pub says : answer
-      ≡ Spent problem.budget bound (length accepted.found.rows) (length accepted.found.table)
-      accepted.found.stored accepted.found.sums
+      ≡ Ok (Spent problem.budget bound (length accepted.found.rows) (length accepted.found.table)
+      accepted.found.stored accepted.found.sums)
   pub left : CheaperPlan order problem (padded plan)
   pub distance : NoneCheaperBy order problem bound (padded plan)
 
@@ -51,17 +53,17 @@ pub record PlanZero (list : List ℤ) (group : List ℕ) (plan : List ℤ) : Typ
   pub plan_holds : plan ≡ replicate (length plan) (pos 0)
 
 -- the answer and the three areas by the definition; and what a reader may conclude from an answer
-pub record PlanPromise (order : Order) (problem : Problem) (room : PlanRoom) (answer : Planned) (list : List ℤ)
+pub record PlanPromise (order : Order) (problem : Problem) (room : PlanRoom) (answer : Outcome Planned) (list : List ℤ)
     (group : List ℕ) (plan : List ℤ) : Type 0 where
   pub answer_is : answer ≡ (plan_call order problem room).answer
   pub list_holds : list ≡ (plan_call order problem room).list
   pub group_holds : group ≡ (plan_call order problem room).group
   pub plan_holds : plan ≡ (plan_call order problem room).plan
-  pub cheapest : (steps rows members stored sums : ℕ) → answer ≡ Cheapest steps rows members stored sums
+  pub cheapest : (steps rows members stored sums : ℕ) → answer ≡ accepted (Cheapest steps rows members stored sums)
       → CheapestReached order problem answer list group plan
-  pub spent : (steps bound rows members stored sums : ℕ) → answer ≡ Spent steps bound rows members stored sums
+  pub spent : (steps bound rows members stored sums : ℕ) → answer ≡ accepted (Spent steps bound rows members stored sums)
       → BudgetSpent order problem answer list group plan
-  pub refused : (number place : ℕ) → answer ≡ Refused number place → PlanZero list group plan
+  pub refused : (number place : ℕ) → answer ≡ refused number place → PlanZero list group plan
 
 -- the sizes of the areas that are lent
 abbrev pub room_in : (list : LentMut ℤ) (group : LentMut ℕ) (plan : LentMut ℤ) → PlanRoom
@@ -73,7 +75,7 @@ room_in list group plan = record {
 
 -- .. of the order and the problem that are sent, in the areas that are lent
 abbrev pub KeepsPlan : Order → Problem → (list : LentMut ℤ) (group : LentMut ℕ) (plan : LentMut ℤ)
-    (answer : Planned) → Type 0
+    (answer : Outcome Planned) → Type 0
 KeepsPlan order problem list group plan answer =
     PlanPromise order problem (room_in list group plan) answer
     list.exit.now group.exit.now plan.exit.now

@@ -13,23 +13,28 @@ ghost use Rattle.plans.specs.Found.{Fitting, InUse, Measured, PlanEndsIn, descen
 
 use costs::{problem_fault, reach};
 use definitions::limits::CELLS;
-use definitions::{Fault, Planned, Terms};
+use definitions::{Planned, Refusal, Terms};
 use descents::{Descent, descend, mark_rows, price_images};
 use moves::{KEYS, MARKS, Numbers, make_list_with};
 use reduction::{Extent, Shape};
-use vectors::{clear, clear_bytes, load, store};
+use vectors::{clear, load, store};
 
 // The prices of images for which there is room; another is computed anew whenever it is asked for.
 const PRICES: usize = 8_192;
 
 // A refusal: zeros in the three areas (Specification 7.4).
-fn refuse(number: u64, place: u64, list: &mut [i32], group: &mut [u8], plan: &mut [i32]) -> Planned
-    ensures refused { PlanEndsIn (λ room. plan_refused room number place) list group plan result }
+fn refuse(
+    refusal: Refusal,
+    list: &mut [i32],
+    group: &mut [u8],
+    plan: &mut [i32],
+) -> Result<Planned, Refusal>
+    ensures refused { PlanEndsIn (λ room. plan_refused room refusal.number refusal.place) list group plan result }
 {
-    clear(&mut *list, 0);
-    clear_bytes(&mut *group, 0);
-    clear(&mut *plan, 0);
-    Planned::Refused { number, place }
+    clear(&mut *list, 0, 0);
+    clear(&mut *group, 0, 0);
+    clear(&mut *plan, 0, 0);
+    Err(refusal)
 }
 
 // The descent by the list and the table in their areas, with the prices of the images; marks and keys are set anew.
@@ -59,7 +64,7 @@ fn improve(
 // What is answered where a descent has ended: that its plan is a cheapest one, or the distance bound.
 fn conclude(end: Descent, terms: Terms, found: Numbers) -> Planned
     requires measured { Measured terms end }
-    ensures told { result ≡ planned_in terms found end }
+    ensures told { Ok result ≡ planned_in terms found end }
 {
     let steps = end.steps as u64;
     if end.gain == 0 {
@@ -102,7 +107,7 @@ fn descend_listed(
     requires room { list_limit * group_limit ≤ length marks.old }
     requires fitting { Fitting n start.now upper.now costs.now budget plan.old }
     ensures ended { PlanEndsIn (descended n found (problem_in start upper costs budget) list group)
-        list group plan result }
+        list group plan (Ok result) }
 {
     let g = found.members as usize;
     let k = found.rows as usize;
@@ -140,29 +145,28 @@ fn test_listed(
     found: Numbers,
     marks: &mut [u8],
     keys: &mut [u64],
-) -> Planned
+) -> Result<Planned, Refusal>
     requires held { Held n found list.old group.old }
     requires room { list_limit * group_limit ≤ length marks.old }
     ensures ended { PlanEndsIn (tested n found (problem_in start upper costs budget) list group)
         list group plan result }
 {
-    let fault = problem_fault(n, start, upper, costs, budget, plan.len());
-    match fault {
-        Fault::At { number, place } => refuse(number, place, &mut *list, &mut *group, &mut *plan),
-        Fault::None => descend_listed(
-            n,
-            start,
-            upper,
-            costs,
-            budget,
-            &mut *list,
-            &mut *group,
-            &mut *plan,
-            found,
-            &mut *marks,
-            &mut *keys,
-        ),
+    if let Err(refusal) = problem_fault(n, start, upper, costs, budget, plan.len()) {
+        return refuse(refusal, &mut *list, &mut *group, &mut *plan);
     }
+    Ok(descend_listed(
+        n,
+        start,
+        upper,
+        costs,
+        budget,
+        &mut *list,
+        &mut *group,
+        &mut *plan,
+        found,
+        &mut *marks,
+        &mut *keys,
+    ))
 }
 
 // The best plan within a budget: what List leaves in the list area and the group area, and in the plan area a cheapest
@@ -180,7 +184,7 @@ pub fn plan(
     list: &mut [i32],
     group: &mut [u8],
     plan: &mut [i32],
-) -> Planned
+) -> Result<Planned, Refusal>
     ensures kept { let order = sent_order n generators exchanges images in
         KeepsPlan order (problem_in start upper costs budget) list group plan result }
 {
@@ -197,34 +201,19 @@ pub fn plan(
         &mut keys,
     );
     match found {
-        moves::Listed::Refused { number, place } => {
-            refuse(number, place, &mut *list, &mut *group, &mut *plan)
-        }
-        moves::Listed::Found {
-            rows,
-            members,
-            stored,
-            sums,
-        } => {
-            let numbers = Numbers {
-                rows,
-                members,
-                stored,
-                sums,
-            };
-            test_listed(
-                n,
-                start,
-                upper,
-                costs,
-                budget,
-                &mut *list,
-                &mut *group,
-                &mut *plan,
-                numbers,
-                &mut marks,
-                &mut keys,
-            )
-        }
+        Err(refusal) => refuse(refusal, &mut *list, &mut *group, &mut *plan),
+        Ok(numbers) => test_listed(
+            n,
+            start,
+            upper,
+            costs,
+            budget,
+            &mut *list,
+            &mut *group,
+            &mut *plan,
+            numbers,
+            &mut marks,
+            &mut keys,
+        ),
     }
 }

@@ -1,4 +1,5 @@
 -- How long a text can be (Specification 9.4). Assumes nothing.
+use Rattle.definitions.specs.Refusals.{Outcome, refused}
 use mathlib.Core.Path.{◌≡◌, refl, sym, ap, ap₂, subst}
 use mathlib.Core.Bool.{true}
 use mathlib.Core.List.{List, [], map, Memᴰ}
@@ -7,7 +8,6 @@ use native.Mathlib.Omega.{arith}
 use lib.IntN.{ℤ}
 use lib.ListN.{length, take, length-map, length-take}
 use Rattle.definitions.specs.declared.Answer.{Answer}
-use Rattle.definitions.specs.declared.Answer.TheVariants.{Refused}
 use Rattle.definitions.specs.Limits.{cells, entry_limit, piece_width, split_limit}
 use Rattle.definitions.specs.Vector.{Vector, within}
 use Rattle.definitions.specs.Completion.{sum_count}
@@ -25,7 +25,7 @@ use Rattle.orders.specs.declared.Service.{Service}
 use Rattle.orders.specs.declared.Service.TheVariants.{List as ListService, Split as SplitService}
 use Rattle.orders.specs.declared.Service.TheVariants.{Check as CheckService}
 use Rattle.orders.specs.Operands.{coefficients_in, rows_in, vector_in}
-use Rattle.orders.proofs.Commands.{accepted}
+use Rattle.orders.proofs.Commands.{accepted-order}
 use Rattle.answers.specs.Answers.{answer_text}
 use Rattle.answers.specs.Lengths.{LinesWithin, WithinLimits, text_limit}
 use Rattle.answers.proofs.Longest.{text-short}
@@ -59,14 +59,14 @@ pieces-within pieces h line m =
 -- ---- texts
 module _ (file : List ℕ) where
   -- a text whose answer and lines are within the limits
-  short-of : (service : Service) {answer : Answer} {lines : List (List ℤ)} → (served service file).answer ≡ answer
+  short-of : (service : Service) {answer : Outcome Answer} {lines : List (List ℤ)} → (served service file).answer ≡ answer
       → (served service file).lines ≡ lines → WithinLimits answer lines → length (printed service file) ≤ text_limit
   unfolding printed
   short-of service {answer} {lines} p q w =
       subst (λ (t : List ℕ). length t ≤ text_limit) (sym (ap₂ answer_text p q)) (text-short answer lines w)
 
   -- of a refusal
-  refused-short : (service : Service) (number place : ℕ) → (served service file).answer ≡ Refused number place
+  refused-short : (service : Service) (number place : ℕ) → (served service file).answer ≡ refused number place
       → Reported 22 number place → length (printed service file) ≤ text_limit
   refused-short service number place e r = short-of service e refl (omega (arith, r.low), omega (arith, r.near))
 
@@ -77,7 +77,7 @@ module _ (file : List ℕ) where
       let c = F.counts in
       let C = listing-counts (order_in file c) (list_size c) (group_size c) F.found F.listed in
       let K = list-kept (order_in file c) (list_size c) (group_size c) F.found F.listed in
-      let L = (accepted ListService file c F.scanned).readable.limited.few in
+      let L = (accepted-order ListService file c F.scanned).readable.limited.few in
       short-of ListService F.answers F.lines (
         omega (arith, C.rows, length-map F.found.rows (take c.cells)),
         C.table,
@@ -100,7 +100,7 @@ module _ (file : List ℕ) where
   passed-short F =
       let c = F.counts in
       let C = check-counts (order_in file c) (rows_in file c) (coefficients_in file c) (group_size c) F.passes in
-      let L = (accepted CheckService file c F.scanned).readable.limited.few in
+      let L = (accepted-order CheckService file c F.scanned).readable.limited.few in
       short-of CheckService F.answers refl
       (omega (arith, L.rows_ok), omega (arith, sums-few C.table L.rows_ok))
 

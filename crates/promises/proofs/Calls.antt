@@ -1,12 +1,13 @@
 -- THE C CALLS keep their promises (Specification 9.4 and 11): by the result and the area that the definition gives.
 -- Assumes nothing.
+use Rattle.definitions.specs.Refusals.{accepted, refused}
 use mathlib.Core.Path.{◌≡◌, sym, ap, ap₂, ◌∙◌, subst}
 use mathlib.Core.List.{List}
 use Prim.Native.Nat.{ℕ, ◌≤◌}
 use native.Mathlib.Omega.{arith}
 use lib.IntN.{ℤ, pos, negsuc}
 use lib.ListN.{length, replicate, take}
-use Rattle.definitions.specs.declared.Answer.TheVariants.{Passed, Refused}
+use Rattle.definitions.specs.declared.Answer.TheVariants.{Passed}
 use Rattle.orders.specs.declared.Service.{Service}
 use Rattle.orders.specs.declared.Service.TheVariants.{List as ListService, Split as SplitService}
 use Rattle.orders.specs.declared.Service.TheVariants.{Check as CheckService}
@@ -67,10 +68,10 @@ list-called file size r a = record {
 
 -- 15 alone has the result of 15
 fifteen : (file : List ℕ) (size : ℕ) → (call_end SplitService file size).result ≡ refusal_of 15 0
-    → Ending SplitService file size (call_end SplitService file size) → (served SplitService file).answer ≡ Refused 15 0
+    → Ending SplitService file size (call_end SplitService file size) → (served SplitService file).answer ≡ refused 15 0
 fifteen file size p (turned number place q m x y) =
     let s = refusal-says number place 15 0 (number-low m) (omega arith) (sym x ∙ p) in
-    q ∙ ap₂ Refused s.0 s.1
+    q ∙ ap₂ refused s.0 s.1
 fifteen file size p (short F h x y) =
     absurd (let s = refusal-says 6 0 15 0 (omega arith) (omega arith) (sym x ∙ p) in omega (arith, s.0))
 fifteen file size p (laid F h x y) =
@@ -105,7 +106,7 @@ check-called file size {result} {area} r a = record {
 }
   where
     passes : (text : List ℕ) → Passing file size text → {rows sums : ℕ}
-        → (served CheckService file).answer ≡ Passed rows sums → text ≡ printed CheckService file
+        → (served CheckService file).answer ≡ accepted (Passed rows sums) → text ≡ printed CheckService file
         → Ending CheckService file size (call_end CheckService file size)
         → HandsOut text result area
     passes text P q e (turned number place q' m x y) = let z : ◌≡◌ {A = ℕ} 0 1 = cc in absurd (omega arith)

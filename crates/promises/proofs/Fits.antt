@@ -1,5 +1,6 @@
 -- What an accepted file lends has the right sizes (Specification 7.3): on it no lent call meets 6 by its order.
 -- Assumes nothing.
+use Rattle.definitions.specs.Refusals.{accepted}
 use mathlib.Core.Path.{◌≡◌, sym, ap, ap₂, ◌∙◌}
 use mathlib.Core.Bool.{Bool, true, not, ◌&&◌, ◌||◌, or-true}
 use mathlib.Core.List.{List}
@@ -15,10 +16,9 @@ use Rattle.definitions.specs.Lent.{is_bare, whole_rows, whole_rows_up_to}
 use Rattle.definitions.specs.Refusals.{images_fit, order_fits}
 use Rattle.orders.specs.declared.Service.{Service}
 use Rattle.orders.specs.declared.Counts.{Counts}
-use Rattle.orders.specs.declared.Scanned.TheVariants.{Counted as Accepted}
 use Rattle.orders.specs.Scan.{scan_of}
 use Rattle.orders.specs.Operands.{exchanges_in, generators_in, images_in}
-use Rattle.orders.proofs.Commands.{accepted as accepted-order}
+use Rattle.orders.proofs.Commands.{accepted-order}
 use Rattle.orders.proofs.Numbers.{exchanges-count, generators-count, images-count}
 use Rattle.promises.specs.Services.{order_in}
 
@@ -31,7 +31,7 @@ rows_fit limit width count size some e few =
     let rows : size / width ≡ count = ap (λ (k : ℕ). k / width) e ∙ mul-div_cancel count some in
     (ap₂ ◌&&◌ (eq-eqb (size % width) 0 rest) (le-leb (size / width) limit (omega (arith, rows))), rows)
 
-module _ (v : Service) (file : List ℕ) (c : Counts) (e : scan_of v file ≡ Accepted c) where
+module _ (v : Service) (file : List ℕ) (c : Counts) (e : scan_of v file ≡ accepted c) where
   abbrev generators : ℕ
   generators = length (generators_in file c)
 

@@ -1,4 +1,6 @@
 -- What an answer that is not a refusal means (Specification 11, demands 2 and 3), and 15 of a Split. Assumes nothing.
+use Rattle.std.specs.declared.result.Result.TheVariants.{Err}
+use Rattle.definitions.specs.Refusals.{no_fault}
 use mathlib.Core.Path.{◌≡◌, refl, sym, ap, ap₂, ◌∙◌, subst}
 use mathlib.Core.Bool.{true}
 use mathlib.Core.List.{List}
@@ -8,8 +10,7 @@ use borrow.Author.Tests.{eq-eqb, le-leb}
 use lib.IntN.{ℤ, pos}
 use lib.ListN.{length, get_or}
 use Rattle.definitions.specs.declared.Answer.{Answer}
-use Rattle.definitions.specs.declared.Answer.TheVariants.{Passed, Refused}
-use Rattle.definitions.specs.declared.Fault.TheVariants.{None}
+use Rattle.definitions.specs.declared.Answer.TheVariants.{Passed}
 use Rattle.definitions.specs.Limits.{cells, split_limit}
 use Rattle.definitions.specs.Vector.{within}
 use Rattle.definitions.specs.Lent.{whole_rows}
@@ -23,12 +24,10 @@ use Rattle.theory.proofs.CheckCall.{check-conformal, check-whole, rules-facts}
 use Rattle.orders.specs.declared.Service.TheVariants.{List as ListService, Split as SplitService}
 use Rattle.orders.specs.declared.Service.TheVariants.{Check as CheckService}
 use Rattle.orders.specs.declared.Counts.{Counts}
-use Rattle.orders.specs.declared.Scanned.{Scanned}
-use Rattle.orders.specs.declared.Scanned.TheVariants.{Counted as Accepted, Refused as RefusedFile}
 use Rattle.orders.specs.Scan.{scan_of}
 use Rattle.orders.specs.Operands.{coefficients_in, rows_in, vector_in}
 use Rattle.orders.proofs.Numbers.{vector-count}
-use Rattle.orders.proofs.Commands.{accepted as accepted-order}
+use Rattle.orders.proofs.Commands.{accepted-order}
 use Rattle.orders.proofs.Scans.{turned_down}
 use Rattle.answers.specs.Answers.{answer_text, passed_text}
 use Rattle.promises.specs.Services.{Served, group_size, list_size, order_in, pieces_size, printed, served, served_by}
@@ -73,21 +72,21 @@ module _ (file : List ℕ) where
       S = split-facts (order_in file c) (vector_in file c) (list_size c) (group_size c) pieces_size F.found F.parted
 
   -- 15 IS SAID ONLY OF A VECTOR THAT IS NOT IN THE LATTICE
-  pub split-outside-file : (served SplitService file).answer ≡ Refused 15 0 → Outside file
+  pub split-outside-file : (served SplitService file).answer ≡ refused 15 0 → Outside file
   unfolding served_by split_call split_end
   split-outside-file q = go (scan_of SplitService file) refl
     where
       parted : (c : Counts) (o : Outcome Parts)
-          → (split_end c.cells (list_size c) (group_size c) pieces_size o).answer ≡ Refused 15 0 → o ≡ refused 15 0
-      parted c (refused a b) x = let y : a ≡ 15 = cc in let z : b ≡ 0 = cc in ap₂ refused y z
+          → (split_end c.cells (list_size c) (group_size c) pieces_size o).answer ≡ refused 15 0 → o ≡ refused 15 0
+      parted c (Err r) x = let y : r.number ≡ 15 = cc in let z : r.place ≡ 0 = cc in ap₂ refused y z
       parted c (accepted found) x = absurd (subst IsRefusal (sym x) tt)
 
-      go : (x : Scanned) → scan_of SplitService file ≡ x → Outside file
-      go (RefusedFile number place) e =
+      go : (x : Outcome Counts) → scan_of SplitService file ≡ x → Outside file
+      go (Err r) e =
           let s = sym (ap (λ (s : Served). s.answer) (served-refused SplitService file e)) ∙ q in
-          let n : number ≡ 15 = cc in
-          absurd (let t = turned_down SplitService file number place e in omega arith)
-      go (Accepted c) e = record {
+          let n : r.number ≡ 15 = cc in
+          absurd (let t = turned_down SplitService file r.number r.place e in omega arith)
+      go (accepted c) e = record {
         counts = c;
         scanned = e;
         apart = split-outside (order_in file c) (vector_in file c) (list_size c) (group_size c) pieces_size
@@ -95,8 +94,8 @@ module _ (file : List ℕ) where
       }
 
   -- the sizes that a file lends are right
-  sizes-right : (c : Counts) → scan_of SplitService file ≡ Accepted c
-      → split_sizes (order_in file c) (vector_in file c) pieces_size ≡ None
+  sizes-right : (c : Counts) → scan_of SplitService file ≡ accepted c
+      → split_sizes (order_in file c) (vector_in file c) pieces_size ≡ no_fault
   unfolding cells_fault split_size_fault whole_rows
   sizes-right c e =
       let A = accepted-order SplitService file c e in
@@ -106,14 +105,14 @@ module _ (file : List ℕ) where
 
   -- a vector within the limit meets no test 14
   entries-pass : (vector : List ℤ) → within split_limit vector ≡ true
-      → fault_where 14 (length vector) (λ p. is_past split_limit (get_or vector p (pos 0))) ≡ None
+      → fault_where 14 (length vector) (λ p. is_past split_limit (get_or vector p (pos 0))) ≡ no_fault
   unfolding is_past
   entries-pass vector h =
       (where-none 14 (length vector) (λ p. is_past split_limit (get_or vector p (pos 0)))).1
       (λ p l. rw (le-leb _ split_limit (within-cell split_limit vector (within-each split_limit vector h) p)))
 
   -- AND PAST 14 EXACTLY THEN
-  pub outside-split : PastEntries file → Outside file → (served SplitService file).answer ≡ Refused 15 0
+  pub outside-split : PastEntries file → Outside file → (served SplitService file).answer ≡ refused 15 0
   unfolding served_by split_call split_end
   outside-split P O =
       let c = P.counts in
@@ -128,10 +127,10 @@ module _ (file : List ℕ) where
 -- ---- Check
 module _ (file : List ℕ) where
   -- what a pass prints
-  pub passed-text : {rows sums : ℕ} → (served CheckService file).answer ≡ Passed rows sums
+  pub passed-text : {rows sums : ℕ} → (served CheckService file).answer ≡ accepted (Passed rows sums)
       → printed CheckService file ≡ passed_text rows sums
   unfolding printed answer_text
-  passed-text e = ap (λ (a : Answer). answer_text a (served CheckService file).lines) e
+  passed-text e = ap (λ (a : Outcome Answer). answer_text a (served CheckService file).lines) e
 
   -- a text that has room is a pass: the rules are kept and the list is whole; by the group's table, and so every
   -- lattice vector is

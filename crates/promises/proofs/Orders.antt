@@ -1,5 +1,6 @@
 -- What a service finds in an accepted file: the outcome of its lent call, its answer and its lines (Specification 1.2
 -- and 7.4). Assumes nothing.
+use Rattle.definitions.specs.Refusals.{Fault, no_fault}
 use mathlib.Core.Path.{◌≡◌, refl, sym, ap, ap₂, ◌∙◌}
 use mathlib.Core.List.{List, map, Memᴰ}
 use Prim.Native.Nat.{ℕ, ◌/◌}
@@ -8,8 +9,6 @@ use lib.IntN.{ℤ, pos}
 use lib.ListN.{length, take, length-map}
 use Rattle.definitions.specs.declared.Answer.{Answer}
 use Rattle.definitions.specs.declared.Answer.TheVariants.{Moves, Split as SplitAnswer, Passed}
-use Rattle.definitions.specs.declared.Fault.{Fault}
-use Rattle.definitions.specs.declared.Fault.TheVariants.{None}
 use Rattle.definitions.specs.Limits.{piece_width}
 use Rattle.definitions.specs.Lists.{concat}
 use Rattle.definitions.specs.Completion.{sum_count}
@@ -25,10 +24,9 @@ use Rattle.orders.specs.declared.Service.{Service}
 use Rattle.orders.specs.declared.Service.TheVariants.{List as ListService, Split as SplitService}
 use Rattle.orders.specs.declared.Service.TheVariants.{Check as CheckService}
 use Rattle.orders.specs.declared.Counts.{Counts}
-use Rattle.orders.specs.declared.Scanned.TheVariants.{Counted as Accepted}
 use Rattle.orders.specs.Scan.{scan_of}
 use Rattle.orders.specs.Operands.{coefficients_in, rows_in, vector_in}
-use Rattle.orders.proofs.Commands.{accepted as accepted-order}
+use Rattle.orders.proofs.Commands.{accepted-order}
 use Rattle.orders.proofs.Numbers.{rows-count}
 use Rattle.answers.specs.Answers.{line_count}
 use Rattle.promises.specs.Services.{Served, group_size, list_size, order_in, pieces_size, served, served_by}
@@ -49,30 +47,30 @@ abbrev pub fault_in : (file : List ℕ) → Counts → Fault
 fault_in file c = check_fault (order_in file c) (rows_in file c) (coefficients_in file c) (group_size c)
 
 -- the answer of a Check that is not refused
-abbrev pub passed_in : (file : List ℕ) → Counts → Answer
-passed_in file c = Passed c.rows (sum_count (length (table_in file c)) c.rows)
+abbrev pub passed_in : (file : List ℕ) → Counts → Outcome Answer
+passed_in file c = accepted (Passed c.rows (sum_count (length (table_in file c)) c.rows))
 
 -- a List that is not refused: its answer has the counts of what was found, and its lines are the rows' own cells
 pub record ListServed (file : List ℕ) : Type 0 where
   pub counts : Counts
-  pub scanned : scan_of ListService file ≡ Accepted counts
+  pub scanned : scan_of ListService file ≡ accepted counts
   pub found : Listing
   pub listed : list_in file counts ≡ accepted found
   pub answers :
       (served ListService file).answer
-      ≡ Moves (length found.rows) (length found.table) found.stored found.sums
+      ≡ accepted (Moves (length found.rows) (length found.table) found.stored found.sums)
   pub lines : (served ListService file).lines ≡ map (take counts.cells) found.rows
 
 -- the answer of a Split that is not refused
-abbrev pub split_answer : Parts → Answer
+abbrev pub split_answer : Parts → Outcome Answer
 split_answer found =
     let l = found.listing in
-    SplitAnswer (length found.pieces) (length l.rows) (length l.table) l.stored l.sums
+    accepted (SplitAnswer (length found.pieces) (length l.rows) (length l.table) l.stored l.sums)
 
 -- a Split that is not refused: its lines are the pieces
 pub record SplitServed (file : List ℕ) : Type 0 where
   pub counts : Counts
-  pub scanned : scan_of SplitService file ≡ Accepted counts
+  pub scanned : scan_of SplitService file ≡ accepted counts
   pub found : Parts
   pub parted : parts_in file counts ≡ accepted found
   pub answers : (served SplitService file).answer ≡ split_answer found
@@ -81,8 +79,8 @@ pub record SplitServed (file : List ℕ) : Type 0 where
 -- a Check that is not refused
 pub record CheckServed (file : List ℕ) : Type 0 where
   pub counts : Counts
-  pub scanned : scan_of CheckService file ≡ Accepted counts
-  pub passes : fault_in file counts ≡ None
+  pub scanned : scan_of CheckService file ≡ accepted counts
+  pub passes : fault_in file counts ≡ no_fault
   pub answers : (served CheckService file).answer ≡ passed_in file counts
 
 -- what a service finds
@@ -94,24 +92,24 @@ Found CheckService file = CheckServed file
 -- ---- an accepted order
 
 -- its answer and its lines are those of its call
-module _ (service : Service) (file : List ℕ) {c : Counts} (e : scan_of service file ≡ Accepted c) where
+module _ (service : Service) (file : List ℕ) {c : Counts} (e : scan_of service file ≡ accepted c) where
   -- all that is served
-  served-order : served service file ≡ served_by service file (Accepted c)
+  served-order : served service file ≡ served_by service file (accepted c)
   unfolding served
   served-order = ap (served_by service file) e
 
   -- the answer
-  pub order-answer : {answer : Answer} → (served_by service file (Accepted c)).answer ≡ answer
+  pub order-answer : {answer : Outcome Answer} → (served_by service file (accepted c)).answer ≡ answer
       → (served service file).answer ≡ answer
   order-answer q = ap (λ (s : Served). s.answer) served-order ∙ q
 
   -- the lines
-  order-lines : {lines : List (List ℤ)} → (served_by service file (Accepted c)).lines ≡ lines
+  order-lines : {lines : List (List ℤ)} → (served_by service file (accepted c)).lines ≡ lines
       → (served service file).lines ≡ lines
   order-lines q = ap (λ (s : Served). s.lines) served-order ∙ q
 
 -- ---- List
-module _ (file : List ℕ) (c : Counts) (e : scan_of ListService file ≡ Accepted c) where
+module _ (file : List ℕ) (c : Counts) (e : scan_of ListService file ≡ accepted c) where
   -- accepted
   pub list-found : (found : Listing) → list_in file c ≡ accepted found → ListServed file
   unfolding served_by
@@ -122,7 +120,7 @@ module _ (file : List ℕ) (c : Counts) (e : scan_of ListService file ≡ Accept
     listed = q;
     answers = order-answer ListService file e H.answer;
     lines = order-lines ListService file e
-        (ap (λ (a : Answer). chunks c.cells (line_count a) (list_call_in file c).list) H.answer
+        (ap (λ (a : Outcome Answer). chunks c.cells (line_count a) (list_call_in file c).list) H.answer
         ∙ held-lines c.cells (accepted-order ListService file c e).readable.limited.few.cells-ok found.rows
         (rows-narrow (order_in file c) found (listing-facts (order_in file c) (list_size c) (group_size c) found q))
         (list_size c) H.list);
@@ -138,7 +136,7 @@ pub piece-wide : (piece : Piece) → length (written piece) ≡ piece_width
 unfolding written
 piece-wide piece = refl
 
-module _ (file : List ℕ) (c : Counts) (e : scan_of SplitService file ≡ Accepted c) where
+module _ (file : List ℕ) (c : Counts) (e : scan_of SplitService file ≡ accepted c) where
   -- accepted
   pub split-found : (found : Parts) → parts_in file c ≡ accepted found → SplitServed file
   unfolding served_by
@@ -149,7 +147,7 @@ module _ (file : List ℕ) (c : Counts) (e : scan_of SplitService file ≡ Accep
     parted = q;
     answers = order-answer SplitService file e H.answer;
     lines = order-lines SplitService file e
-        (ap₂ (λ (a : Answer) (numbers : List ℤ). chunks piece_width (line_count a) numbers) H.answer H.pieces
+        (ap₂ (λ (a : Outcome Answer) (numbers : List ℤ). chunks piece_width (line_count a) numbers) H.answer H.pieces
         ∙ ap (λ (k : ℕ). chunks piece_width k (filled (pos 0) pieces_size (concat (map written found.pieces))))
         (sym (length-map found.pieces written))
         ∙ chunks-filled piece_width pieces_size (pos 0) (map written found.pieces) wide);
@@ -162,7 +160,7 @@ module _ (file : List ℕ) (c : Counts) (e : scan_of SplitService file ≡ Accep
       wide line m = let t = map-inv written found.pieces m in ap length t.2 ∙ piece-wide t.0
 
 -- ---- Check
-module _ (file : List ℕ) (c : Counts) (e : scan_of CheckService file ≡ Accepted c) where
+module _ (file : List ℕ) (c : Counts) (e : scan_of CheckService file ≡ accepted c) where
   -- the rows that were brought
   brought : length (rows_in file c) / c.cells ≡ c.rows
   brought =
@@ -177,6 +175,6 @@ module _ (file : List ℕ) (c : Counts) (e : scan_of CheckService file ≡ Accep
       ap₂ (λ (k : ℕ) (f : Fault). (check_end (group_size c) k (table_in file c) f).answer) brought q
 
   -- no fault
-  pub check-found : fault_in file c ≡ None → (served CheckService file).answer ≡ passed_in file c
+  pub check-found : fault_in file c ≡ no_fault → (served CheckService file).answer ≡ passed_in file c
   unfolding served_by check_end
   check-found q = order-answer CheckService file e (check-answer q)

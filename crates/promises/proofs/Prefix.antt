@@ -1,14 +1,14 @@
 -- The first bytes of a file decide what the services answer to it (Specification 8.3). Assumes nothing.
+use Rattle.definitions.specs.Refusals.{Outcome, accepted, refused}
+use Rattle.std.specs.declared.result.Result.TheVariants.{Err}
+use Rattle.orders.specs.declared.Counts.{Counts}
 use mathlib.Core.Path.{◌≡◌, refl, sym, ap, ap₂, ◌∙◌}
 use mathlib.Core.List.{List, []}
 use Prim.Native.Nat.{ℕ, ◌≤◌}
 use lib.ListN.{length, take}
 use lib.Seq.{take-take}
-use Rattle.definitions.specs.declared.Answer.TheVariants.{Refused}
 use Rattle.definitions.specs.Lent.{filled}
 use Rattle.orders.specs.declared.Service.{Service}
-use Rattle.orders.specs.declared.Scanned.{Scanned}
-use Rattle.orders.specs.declared.Scanned.TheVariants.{Counted as Accepted, Refused as RefusedFile}
 use Rattle.definitions.specs.Limits.{order_limit}
 use Rattle.orders.specs.Scan.{scan_of}
 use Rattle.orders.proofs.Prefix.{accepted-whole, scan-prefix}
@@ -18,11 +18,11 @@ use Rattle.promises.specs.Promise.{ForInput, Prints}
 
 -- what is served for a file that its scan refuses
 abbrev pub refused_by : (number place : ℕ) → Served
-refused_by number place = record { answer = Refused number place; lines = [] }
+refused_by number place = record { answer = refused number place; lines = [] }
 
 -- so it is
 pub served-refused : (service : Service) (file : List ℕ) {number place : ℕ}
-    → scan_of service file ≡ RefusedFile number place → served service file ≡ refused_by number place
+    → scan_of service file ≡ refused number place → served service file ≡ refused_by number place
 unfolding served served_by
 served-refused service file e = ap (served_by service file) e
 
@@ -30,9 +30,9 @@ served-refused service file e = ap (served_by service file) e
 pub first-bytes : (service : Service) (file : List ℕ) → served service (take order_limit file) ≡ served service file
 first-bytes service file = go (scan_of service file) refl
   where
-    go : (x : Scanned) → scan_of service file ≡ x → served service (take order_limit file) ≡ served service file
-    go (Accepted c) e = ap (served service) (accepted-whole service file c e)
-    go (RefusedFile number place) e =
+    go : (x : Outcome Counts) → scan_of service file ≡ x → served service (take order_limit file) ≡ served service file
+    go (accepted c) e = ap (served service) (accepted-whole service file c e)
+    go (Err r) e =
         served-refused service (take order_limit file) (scan-prefix service file ∙ e)
         ∙ sym (served-refused service file e)
 

@@ -1,4 +1,6 @@
 -- What a printed text means (Specification 1.3 and 11): by its first word, and REFUSED 15 0. Assumes nothing.
+use Rattle.definitions.specs.Refusals.{Outcome, accepted, refused}
+use Rattle.std.specs.declared.result.Result.TheVariants.{Err}
 use mathlib.Core.Path.{◌≡◌, refl, sym, ◌∙◌, ap, ap₂, subst}
 use mathlib.Core.List.{List, [], ◌∷◌}
 use Prim.Native.Nat.{ℕ}
@@ -6,7 +8,7 @@ use native.Mathlib.Omega.{arith}
 use lib.IntN.{ℤ}
 use lib.ListN.{get_or, take}
 use Rattle.definitions.specs.declared.Answer.{Answer}
-use Rattle.definitions.specs.declared.Answer.TheVariants.{Moves, Split as SplitAnswer, Passed, Refused}
+use Rattle.definitions.specs.declared.Answer.TheVariants.{Moves, Split as SplitAnswer, Passed}
 use Rattle.orders.specs.declared.Service.{Service}
 use Rattle.orders.specs.declared.Service.TheVariants.{List as ListService, Split as SplitService}
 use Rattle.orders.specs.declared.Service.TheVariants.{Check as CheckService}
@@ -26,13 +28,13 @@ abbrev first_byte : ℕ
 first_byte = get_or refused_word 0 0
 
 -- the answer is not a refusal where its text begins with another letter
-not-refused : (answer : Answer) (lines : List (List ℤ)) {text : List ℕ} → answer_text answer lines ≡ text
+not-refused : (answer : Outcome Answer) (lines : List (List ℤ)) {text : List ℕ} → answer_text answer lines ≡ text
     → ¬ (get_or text 0 0 ≡ first_byte) → ¬ (IsRefusal answer)
 unfolding answer_text refused_text head_text
-not-refused (Moves rows members stored sums) lines e other h = h
-not-refused (SplitAnswer pieces rows members stored sums) lines e other h = h
-not-refused (Passed rows sums) lines e other h = h
-not-refused (Refused number place) lines e other h = other (sym (ap (λ (t : List ℕ). get_or t 0 0) e))
+not-refused (accepted (Moves rows members stored sums)) lines e other h = h
+not-refused (accepted (SplitAnswer pieces rows members stored sums)) lines e other h = h
+not-refused (accepted (Passed rows sums)) lines e other h = h
+not-refused (Err r) lines e other h = other (sym (ap (λ (t : List ℕ). get_or t 0 0) e))
 
 -- so that the service found something
 found-printed : (service : Service) (file : List ℕ) {text : List ℕ} → printed service file ≡ text
@@ -42,19 +44,19 @@ found-printed service file e other =
     found-unless service file refl (not-refused (served service file).answer (served service file).lines e other)
 
 -- a text of a refusal is that of no other answer
-refusal-printed : (answer : Answer) (lines : List (List ℤ)) (number place : ℕ)
-    → answer_text answer lines ≡ refused_text number place → answer ≡ Refused number place
+refusal-printed : (answer : Outcome Answer) (lines : List (List ℤ)) (number place : ℕ)
+    → answer_text answer lines ≡ refused_text number place → answer ≡ refused number place
 unfolding answer_text moves_text split_text passed_text refused_text table_text head_text
-refusal-printed (Moves rows members stored sums) lines number place e =
+refusal-printed (accepted (Moves rows members stored sums)) lines number place e =
     absurd (omega (arith, ap (λ (t : List ℕ). get_or t 0 0) e))
-refusal-printed (SplitAnswer pieces rows members stored sums) lines number place e =
+refusal-printed (accepted (SplitAnswer pieces rows members stored sums)) lines number place e =
     absurd (omega (arith, ap (λ (t : List ℕ). get_or t 0 0) e))
-refusal-printed (Passed rows sums) lines number place e = absurd (omega (arith, ap (λ (t : List ℕ). get_or t 0 0) e))
-refusal-printed (Refused a b) lines number place e =
-    let same = head-says refused_word {ms = a ∷ b ∷ []} {ns = number ∷ place ∷ []} e in
-    let y : a ≡ number = cc in
-    let z : b ≡ place = cc in
-    ap₂ Refused y z
+refusal-printed (accepted (Passed rows sums)) lines number place e = absurd (omega (arith, ap (λ (t : List ℕ). get_or t 0 0) e))
+refusal-printed (Err r) lines number place e =
+    let same = head-says refused_word {ms = r.number ∷ r.place ∷ []} {ns = number ∷ place ∷ []} e in
+    let y : r.number ≡ number = cc in
+    let z : r.place ≡ place = cc in
+    ap₂ refused y z
 
 -- ---- the three programs
 module _ (file : List ℕ) {count : ℕ} {area : List ℕ} where
@@ -82,7 +84,7 @@ module _ (file : List ℕ) {count : ℕ} {area : List ℕ} where
       lines : List (List ℤ)
       lines = (served SplitService file).lines
 
-      text : Answer → List ℕ
+      text : Outcome Answer → List ℕ
       text answer = answer_text answer lines
 
       outside : take count area ≡ refused_text 15 0 → Outside file

@@ -1,5 +1,6 @@
 -- Every Check file that holds the order of a list with coefficients, its rows and its coefficients is answered
 -- PASSED: by the program, and by the C call with room for the text. Assumes nothing.
+use Rattle.definitions.specs.Refusals.{Outcome}
 use mathlib.Core.Path.{◌≡◌, ◌∙◌, ap, ap₂}
 use mathlib.Core.Bool.{Bool, true, cond}
 use mathlib.Core.List.{List}
@@ -21,8 +22,6 @@ use Rattle.certified_theory.proofs.Forgetting.{certified-listing}
 use Rattle.certified_theory.proofs.Passing.{order-some, written-passed}
 use Rattle.orders.specs.declared.Service.TheVariants.{Check as CheckService}
 use Rattle.orders.specs.declared.Counts.{Counts}
-use Rattle.orders.specs.declared.Scanned.{Scanned}
-use Rattle.orders.specs.declared.Scanned.TheVariants.{Counted as Accepted}
 use Rattle.orders.specs.Scan.{scan_of}
 use Rattle.orders.specs.Operands.{coefficients_in, rows_in}
 use Rattle.answers.specs.Answers.{passed_text}
@@ -33,7 +32,7 @@ use Rattle.promises.proofs.Meaning.{passed-text}
 -- a List with coefficients that is accepted, and a Check file that holds its order, its rows and their coefficients
 module _ (order : Order) (list_size area_size coefficient_size : ℕ) (found : CertifiedListing)
     (e : certified_listing order list_size area_size coefficient_size ≡ accepted found) (file : List ℕ) (c : Counts)
-    (scanned : scan_of CheckService file ≡ Accepted c) (same : order_in file c ≡ order)
+    (scanned : scan_of CheckService file ≡ accepted c) (same : order_in file c ≡ order)
     (rows : rows_in file c ≡ numbers_of order.n found.listing.rows)
     (coefficients : coefficients_in file c ≡ concat found.coefficients) where
   abbrev text : List ℕ
@@ -60,11 +59,11 @@ module _ (order : Order) (list_size area_size coefficient_size : ℕ) (found : C
 
   -- THE FILE IS PASSED
   pub file-passed : (served CheckService file).answer
-      ≡ Passed (length found.listing.rows)
-      (sum_count (length found.listing.table) (length found.listing.rows))
+      ≡ accepted (Passed (length found.listing.rows)
+      (sum_count (length found.listing.table) (length found.listing.rows)))
   unfolding served served_by
   file-passed =
-      ap (λ (s : Scanned). (served_by CheckService file s).answer) scanned
+      ap (λ (s : Outcome Counts). (served_by CheckService file s).answer) scanned
       ∙ ap (λ (o : Order). (check_call o (rows_in file c) (coefficients_in file c) (group_size c)).answer) same
       ∙ ap₂ (λ (x y : List ℤ). (check_call order x y (group_size c)).answer) rows coefficients
       ∙ written-passed order list_size area_size coefficient_size found e (group_size c) whole room

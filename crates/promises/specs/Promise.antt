@@ -14,7 +14,6 @@ use Rattle.orders.specs.declared.Service.{Service}
 use Rattle.orders.specs.declared.Service.TheVariants.{List as ListService, Split as SplitService}
 use Rattle.orders.specs.declared.Service.TheVariants.{Check as CheckService}
 use Rattle.orders.specs.declared.Counts.{Counts}
-use Rattle.orders.specs.declared.Scanned.TheVariants.{Counted as Accepted}
 use Rattle.orders.specs.Scan.{scan_of}
 use Rattle.orders.specs.Operands.{coefficients_in, rows_in, vector_in}
 use Rattle.answers.specs.Answers.{moves_text, moves_word, passed_text, passed_word, refused_text, split_text, split_word}
@@ -30,7 +29,7 @@ list_text n found = moves_text (length found.table) found.stored found.sums (map
 -- demand 2, List: the file holds an order, and the text is that of its whole list, sorted
 pub record Listed (file text : List ℕ) : Type 0 where
   pub counts : Counts
-  pub scanned : scan_of ListService file ≡ Accepted counts
+  pub scanned : scan_of ListService file ≡ accepted counts
   pub found : Listing
   pub kept : ListKept (order_in file counts) found
   pub says : text ≡ list_text counts.cells found
@@ -45,7 +44,7 @@ LiesInside file c = InLattice (generators_of (order_in file c)) (padded (vector_
 -- none opposing it
 pub record Parted (file text : List ℕ) : Type 0 where
   pub counts : Counts
-  pub scanned : scan_of SplitService file ≡ Accepted counts
+  pub scanned : scan_of SplitService file ≡ accepted counts
   pub found : Parts
   pub list_kept : ListKept (order_in file counts) found.listing
   pub kept : SplitKept found.listing.table found.listing.rows (padded (vector_in file counts)) found.pieces
@@ -55,13 +54,13 @@ pub record Parted (file text : List ℕ) : Type 0 where
 -- the file holds an order and a vector that is not in its lattice
 pub record Outside (file : List ℕ) : Type 0 where
   pub counts : Counts
-  pub scanned : scan_of SplitService file ≡ Accepted counts
+  pub scanned : scan_of SplitService file ≡ accepted counts
   pub apart : ¬ (LiesInside file counts)
 
 -- 4.2: the file holds an order whose list is accepted, and a vector with no entry past its limit: a Split gets past 14
 pub record PastEntries (file : List ℕ) : Type 0 where
   pub counts : Counts
-  pub scanned : scan_of SplitService file ≡ Accepted counts
+  pub scanned : scan_of SplitService file ≡ accepted counts
   pub found : Listing
   pub listed : listing (order_in file counts) (list_size counts) (group_size counts) ≡ accepted found
   pub entries : within split_limit (vector_in file counts) ≡ true
@@ -77,7 +76,7 @@ BringsWhole file c =
 -- demand 3: the file holds an order and a list, the rules are kept, the list is whole, and there is room for the text
 pub record Passing (file : List ℕ) (size : ℕ) (text : List ℕ) : Type 0 where
   pub counts : Counts
-  pub scanned : scan_of CheckService file ≡ Accepted counts
+  pub scanned : scan_of CheckService file ≡ accepted counts
   pub rules : RulesKept (order_in file counts) (rows_in file counts) (coefficients_in file counts) (group_size counts)
   pub whole : BringsWhole file counts
   pub says : text ≡ passed_text counts.rows (sum_count (length (table_in file counts)) counts.rows)

@@ -1,7 +1,9 @@
 -- Specification 1.2, 1.3 and 9.4: what the services answer to order files. Assumes nothing.
+use Rattle.definitions.specs.Refusals.{Outcome, accepted, refused}
+use Rattle.std.specs.declared.result.Result.TheVariants.{Err}
 use Rattle.std.specs.Prelude.{List, [], ℕ, ◌*◌, leb, ℤ, pos, length, if◌then◌else◌}
 use Rattle.definitions.specs.declared.Answer.{Answer}
-use Rattle.definitions.specs.declared.Answer.TheVariants.{Moves, Split as SplitAnswer, Passed, Refused}
+use Rattle.definitions.specs.declared.Answer.TheVariants.{Moves, Split as SplitAnswer, Passed}
 use Rattle.definitions.specs.Limits.{group_limit, list_limit, lent_pieces, piece_width}
 use Rattle.definitions.specs.Group.{Exchange}
 use Rattle.definitions.specs.Lent.{Order, chunks, filled, order_of, table_of}
@@ -10,8 +12,6 @@ use Rattle.orders.specs.declared.Service.{Service}
 use Rattle.orders.specs.declared.Service.TheVariants.{List as ListService, Split as SplitService}
 use Rattle.orders.specs.declared.Service.TheVariants.{Check as CheckService}
 use Rattle.orders.specs.declared.Counts.{Counts}
-use Rattle.orders.specs.declared.Scanned.{Scanned}
-use Rattle.orders.specs.declared.Scanned.TheVariants.{Counted as Accepted, Refused as RefusedFile}
 use Rattle.orders.specs.Scan.{scan_of}
 use Rattle.orders.specs.Operands.{generators_in, exchanges_in, images_in, rows_in, coefficients_in, vector_in}
 use Rattle.answers.specs.Answers.{answer_text, line_count}
@@ -51,19 +51,19 @@ check_call_in file c = check_call (order_in file c) (rows_in file c) (coefficien
 
 -- an answer, and the lines of numbers that are printed with it
 pub record Served : Type 0 where
-  pub answer : Answer
+  pub answer : Outcome Answer
   pub lines : List (List ℤ)
 
 -- by the scan of the file: its refusal, or the answer of the lent call and the rows of its list or of its pieces
-unfoldable pub served_by : Service → (file : List ℕ) → Scanned → Served
-served_by service file (RefusedFile number place) = record { answer = Refused number place; lines = [] }
-served_by ListService file (Accepted c) =
+unfoldable pub served_by : Service → (file : List ℕ) → Outcome Counts → Served
+served_by service file (Err r) = record { answer = refused r.number r.place; lines = [] }
+served_by ListService file (accepted c) =
     let end = list_call_in file c in
     record { answer = end.answer; lines = chunks c.cells (line_count end.answer) end.list }
-served_by SplitService file (Accepted c) =
+served_by SplitService file (accepted c) =
     let end = split_call_in file c in
     record { answer = end.answer; lines = chunks piece_width (line_count end.answer) end.pieces }
-served_by CheckService file (Accepted c) =
+served_by CheckService file (accepted c) =
     record { answer = (check_call_in file c).answer; lines = [] }
 
 unfoldable pub served : Service → (file : List ℕ) → Served
@@ -90,11 +90,11 @@ text_end size text =
     if leb (length text) size then record { result = pos (length text); area = filled 0 size text } else refused_end
     size 6 0
 
-unfoldable pub end_by : (size : ℕ) → Answer → (text : List ℕ) → CallEnd
-end_by size (Refused number place) text = refused_end size number place
-end_by size (Moves rows members stored sums) text = text_end size text
-end_by size (SplitAnswer pieces rows members stored sums) text = text_end size text
-end_by size (Passed rows sums) text = text_end size text
+unfoldable pub end_by : (size : ℕ) → Outcome Answer → (text : List ℕ) → CallEnd
+end_by size (Err r) text = refused_end size r.number r.place
+end_by size (accepted (Moves rows members stored sums)) text = text_end size text
+end_by size (accepted (SplitAnswer pieces rows members stored sums)) text = text_end size text
+end_by size (accepted (Passed rows sums)) text = text_end size text
 
 -- 1.2: a C call with an answer area of so many bytes
 unfoldable pub call_end : Service → (file : List ℕ) (size : ℕ) → CallEnd

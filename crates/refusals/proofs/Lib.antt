@@ -1,4 +1,2 @@
--- Laws that the proofs of the tests share, and what passed tests give to those that follow.
+-- Laws that the proofs of the tests share.
 pub mod Turns
-pub mod Passed
-pub mod BareSizes

@@ -1,6 +1,6 @@
 -- Specification 7.2: what the tests of numbers find, in lent areas. Assumes nothing.
-use Rattle.std.specs.Prelude.{Bool, ◌&&◌, List, [], ℕ, ◌*◌, ◌/◌, eqb, ℤ, pos, length, get_or}
-use Rattle.definitions.specs.declared.Fault.{Fault}
+use Rattle.definitions.specs.Refusals.{Fault}
+use Rattle.std.specs.Prelude.{◌≡◌, Bool, ◌&&◌, List, [], ℕ, ◌*◌, ◌/◌, ◌<◌, eqb, ℤ, pos, length, get_or}
 use Rattle.definitions.specs.Limits.{list_limit}
 use Rattle.definitions.specs.Vector.{is_zero}
 use Rattle.definitions.specs.Lent.{whole_rows, whole_rows_up_to, vectors_of}
@@ -25,3 +25,7 @@ abbrev pub zero_fault : (n : ℕ) (generators : List ℤ) → Fault
 zero_fault n generators =
     let rows = vectors_of n generators in
     fault_where 8 (length rows) (λ p. is_zero (get_or rows p []))
+
+-- at each of `count` places a call answers as due
+abbrev pub Tells : (count : ℕ) (answers : ℕ → Bool → Type 0) (due : ℕ → Bool) → Type 0
+Tells count answers due = (p : ℕ) (b : Bool) → p < count → answers p b → b ≡ due p

@@ -42,10 +42,8 @@ pub fn show_group(group: &[u8])
 {
     let mut counts = [0u64; GROUP];
     let end = group.len();
-    let mut i = 0;
-    while i < end {
+    for i in 0..end {
         counts[i] = group[i] as u64;
-        i += 1;
     }
     show_head(b"GROUP", &counts[..end]);
 }

@@ -17,7 +17,7 @@ use definitions::limits::{
     CELLS, ENTRY_LIMIT, GENERATOR_LIMIT, GROUP_LIMIT, LENT_PIECES, LIST_LIMIT, PIECE_WIDTH,
     SESSION_ROWS,
 };
-use definitions::{Answer, Ending};
+use definitions::{Answer, Ending, Refusal};
 
 // The list rows that programs lend (Specification 1.2), for the most cells.
 const LIST_AREA: usize = LIST_LIMIT * CELLS;
@@ -77,32 +77,20 @@ const IMAGES_17: [i64; 4] = [-1, -1, 1, 0];
 // ---- calls
 
 // The lines of numbers that the text of an answer has.
-fn line_count(answer: Answer) -> u64
+fn line_count(answer: Result<Answer, Refusal>) -> u64
     ensures lines { result ≡ line_count answer }
 {
     match answer {
-        Answer::Moves {
-            rows,
-            members,
-            stored,
-            sums,
-        } => rows,
-        Answer::Split {
-            pieces,
-            rows,
-            members,
-            stored,
-            sums,
-        } => pieces,
-        Answer::Passed { rows, sums } => 0,
-        Answer::Refused { number, place } => 0,
+        Ok(Answer::Moves { rows, .. }) => rows,
+        Ok(Answer::Split { pieces, .. }) => pieces,
+        _ => 0,
     }
 }
 
 // Prints the name of a sample and the text of its answer (Specification 9). Both tests are always met: the area of an
 // accepted call holds as many rows as the answer counts, and no text is longer. If one were not met, the missing text
 // would show against `stdout`.
-fn show(name: &[u8], answer: Answer, numbers: &[i32], width: usize)
+fn show(name: &[u8], answer: Result<Answer, Refusal>, numbers: &[i32], width: usize)
     requires some { 1 ≤ width }
 {
     io::write_all(1, name);
@@ -241,10 +229,8 @@ fn show_coefficients(coefficients: &[i64], width: usize, rows: usize)
     requires some { 1 ≤ width }
 {
     io::write_all(1, b"COEFFICIENTS\n");
-    let mut i = 0;
-    while i < coefficients.len() {
+    for i in 0..coefficients.len() {
         show_at(coefficients, i, width, rows);
-        i += 1;
     }
     io::write_all(1, b"END\n");
 }
@@ -303,30 +289,32 @@ fn with_coefficients(name: &[u8], n: usize, m: usize, generators: &[i32], exchan
 }
 
 // Prints the name of a sample and how an order of a session ends; its rows are numbers of `width` each.
-fn show_ending(name: &[u8], ending: Ending, numbers: &[i32], width: usize)
+fn show_ending(name: &[u8], ending: Result<Ending, Refusal>, numbers: &[i32], width: usize)
     requires some { 1 ≤ width }
 {
     match ending {
-        Ending::Moves {
-            rows,
-            members,
-            stored,
-            sums,
-        } => {
+        Ok(
+            Ending::Moves {
+                rows,
+                members,
+                stored,
+                sums,
+            },
+        ) => {
             let answer = Answer::Moves {
                 rows,
                 members,
                 stored,
                 sums,
             };
-            show(name, answer, numbers, width);
+            show(name, Ok(answer), numbers, width);
         }
-        Ending::Unfinished { sums } => {
+        Ok(Ending::Unfinished { sums }) => {
             io::write_all(1, name);
             show_unfinished(sums);
         }
-        Ending::Refused { number, place } => {
-            show(name, Answer::Refused { number, place }, numbers, width);
+        Err(refusal) => {
+            show(name, Err(refusal), numbers, width);
         }
     }
 }
@@ -341,23 +329,12 @@ fn show_unfinished(sums: u64) {
     }
 }
 
-// Prints a number without a sign. The test is always met.
-fn show_natural(x: u64) {
-    let mut text = [0u8; NUMBER];
-    let end = answers::put_natural(&mut text, 0, x);
-    if end <= NUMBER {
-        io::write_all(1, &text[..end]);
-    }
-}
-
 // Prints the numbers of a group area.
 fn show_group(group: &[u8]) {
     io::write_all(1, b"GROUP");
-    let mut i = 0;
-    while i < group.len() {
+    for byte in group {
         io::write_all(1, b" ");
-        show_natural(group[i] as u64);
-        i += 1;
+        show_number(*byte as i64);
     }
     io::write_all(1, b"\n");
 }

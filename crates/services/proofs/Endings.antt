@@ -1,5 +1,8 @@
 -- How a C call ends and what a program prints, by what was written into the answer area (Specification 9.4). Assumes
 -- nothing.
+use Rattle.definitions.specs.declared.Refusal.{Refusal}
+use Rattle.definitions.specs.Refusals.{Outcome, accepted, refused}
+use Rattle.std.specs.declared.result.Result.TheVariants.{Err}
 use mathlib.Core.Path.{◌≡◌, refl, sym, ◌∙◌, ap, ap₂}
 use mathlib.Core.List.{List}
 use Prim.Native.Nat.{ℕ, ◌-◌, ◌≤◌, ◌<◌}
@@ -9,7 +12,7 @@ use lib.ListN.{length, take, replicate}
 use lib.Seq.{length-take-le, take-append_seam}
 use borrow.Author.Tests.{le-leb, lt-leb}
 use Rattle.definitions.specs.declared.Answer.{Answer}
-use Rattle.definitions.specs.declared.Answer.TheVariants.{Moves, Split, Passed, Refused}
+use Rattle.definitions.specs.declared.Answer.TheVariants.{Moves, Split, Passed}
 use Rattle.definitions.specs.Limits.{order_limit}
 use Rattle.definitions.specs.Lent.{filled}
 use Rattle.theory.proofs.Areas.{filled-nothing}
@@ -42,13 +45,13 @@ ends_same e E =
     { results = E.results ∙ ap (λ (x : CallEnd). x.result) e; area_holds = E.area_holds ∙ ap (λ (x : CallEnd). x.area) e }
 
 -- any answer but a refusal ends with its text
-pub ends-text : (size : ℕ) (answer : Answer) (text : List ℕ)
-    → ((number place : ℕ) → answer ≡ Refused number place → ⊥) → text_end size text ≡ end_by size answer text
+pub ends-text : (size : ℕ) (answer : Outcome Answer) (text : List ℕ)
+    → ((r : Refusal) → answer ≡ Err r → ⊥) → text_end size text ≡ end_by size answer text
 unfolding end_by
-ends-text size (Moves rows members stored sums) text h = refl
-ends-text size (Split pieces rows members stored sums) text h = refl
-ends-text size (Passed rows sums) text h = refl
-ends-text size (Refused number place) text h = absurd (h number place refl)
+ends-text size (accepted (Moves rows members stored sums)) text h = refl
+ends-text size (accepted (Split pieces rows members stored sums)) text h = refl
+ends-text size (accepted (Passed rows sums)) text h = refl
+ends-text size (Err r) text h = absurd (h r refl)
 
 -- an area of zeros after a refusal
 pub ends-refused : (size number place : ℕ) {result : ℤ} {area : List ℕ} → result ≡ refusal_of number place
@@ -98,15 +101,15 @@ module _ {n : ℕ} {area : List ℕ} {end : ℕ} {text : List ℕ} (w : Laid n a
 -- ---- what is served
 
 -- the refusal of a file, if it is one, can be returned
-small_of : (service : Service) (file : List ℕ) (answer : Answer) → (served service file).answer ≡ answer → Small answer
-small_of service file (Refused number place) e =
-    let r = served-reported service file number place e in
+small_of : (service : Service) (file : List ℕ) (answer : Outcome Answer) → (served service file).answer ≡ answer → Small answer
+small_of service file (Err q) e =
+    let r = served-reported service file q.number q.place e in
     (number-low r, r.near)
-small_of service file (Moves rows members stored sums) e = tt
-small_of service file (Split pieces rows members stored sums) e = tt
-small_of service file (Passed rows sums) e = tt
+small_of service file (accepted (Moves rows members stored sums)) e = tt
+small_of service file (accepted (Split pieces rows members stored sums)) e = tt
+small_of service file (accepted (Passed rows sums)) e = tt
 
-module _ (service : Service) (file : List ℕ) {answer : Answer} {width : ℕ} {numbers : List ℤ}
+module _ (service : Service) (file : List ℕ) {answer : Outcome Answer} {width : ℕ} {numbers : List ℤ}
     (S : Serves (served service file) answer width numbers) where
   -- its text is the one that is printed
   served-text : rows_text answer width numbers ≡ printed service file

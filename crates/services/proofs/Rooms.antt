@@ -1,4 +1,5 @@
 -- What an accepted file lends fits in areas for any order (Specification 6). Assumes nothing.
+use Rattle.definitions.specs.Refusals.{accepted}
 use mathlib.Core.Path.{◌≡◌, subst⁻¹}
 use mathlib.Core.List.{List}
 use Prim.Native.Nat.{ℕ, ◌*◌, ◌≤◌}
@@ -10,9 +11,8 @@ use lib.ListN.{length}
 use Rattle.definitions.specs.Limits.{bare_limit, cells, exchange_limit, generator_limit, list_limit}
 use Rattle.orders.specs.declared.Service.{Service}
 use Rattle.orders.specs.declared.Counts.{Counts}
-use Rattle.orders.specs.declared.Scanned.TheVariants.{Counted as Accepted}
 use Rattle.orders.specs.Scan.{Few, scan_of}
-use Rattle.orders.proofs.Commands.{accepted}
+use Rattle.orders.proofs.Commands.{accepted-order}
 use Rattle.orders.proofs.Numbers.{exchanges-count, generators-count, images-count}
 use Rattle.services.specs.Answered.{OrderFits}
 
@@ -46,11 +46,11 @@ module _ (c : Counts) (h : Few c) where
 
 -- and so do the generators, the exchanges and the images of an accepted file
 pub order-fits : (v : Service) (file : List ℕ) (c : Counts) {generators : List ℤ} {exchanges : List ℕ} {images : List ℤ}
-    → scan_of v file ≡ Accepted c → generator_limit * cells ≤ length generators
+    → scan_of v file ≡ accepted c → generator_limit * cells ≤ length generators
     → exchange_limit * cells ≤ length exchanges → exchange_limit * bare_limit * bare_limit ≤ length images
     → OrderFits file c generators exchanges images
 order-fits v file c e g x i =
-    let A = accepted v file c e in
+    let A = accepted-order v file c e in
     record {
       readable = A.readable;
       generators_count = generators-count v file c A;

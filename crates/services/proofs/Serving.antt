@@ -1,4 +1,6 @@
 -- What the lent calls promise, said of the files that lend to them (Specification 1.2). Assumes nothing.
+use Rattle.std.specs.declared.result.Result.TheVariants.{Err}
+use Rattle.definitions.specs.Refusals.{Fault, no_fault}
 use mathlib.Core.Path.{◌≡◌, refl, sym, ◌∙◌, ap, ap₂, subst⁻¹}
 use mathlib.Core.List.{List, [], ◌++◌, map, append_assoc, Memᴰ}
 use Prim.Native.Nat.{ℕ, ◌*◌, ◌-◌, ◌/◌, ◌≤◌}
@@ -6,9 +8,6 @@ use native.Mathlib.Omega.{arith}
 use lib.IntN.{ℤ, pos}
 use lib.ListN.{length, take, drop, length-append, take-append-drop, replicate, length-map}
 use Rattle.definitions.specs.declared.Answer.{Answer}
-use Rattle.definitions.specs.declared.Answer.TheVariants.{Refused}
-use Rattle.definitions.specs.declared.Fault.{Fault}
-use Rattle.definitions.specs.declared.Fault.TheVariants.{None, At}
 use Rattle.definitions.specs.Limits.{cells, piece_width}
 use Rattle.definitions.specs.Lists.{concat}
 use Rattle.definitions.specs.Split.{Piece, written}
@@ -25,8 +24,6 @@ use Rattle.orders.specs.declared.Service.{Service}
 use Rattle.orders.specs.declared.Service.TheVariants.{List as ListService, Split as SplitService}
 use Rattle.orders.specs.declared.Service.TheVariants.{Check as CheckService}
 use Rattle.orders.specs.declared.Counts.{Counts}
-use Rattle.orders.specs.declared.Scanned.{Scanned}
-use Rattle.orders.specs.declared.Scanned.TheVariants.{Counted as Accepted, Refused as RefusedFile}
 use Rattle.orders.specs.Scan.{scan_of}
 use Rattle.orders.specs.Operands.{coefficients_in, rows_in, vector_in}
 use Rattle.answers.specs.Answers.{line_count}
@@ -42,7 +39,7 @@ first_chunks {A} n k a b h =
     ∙ chunks-front n k a (drop (k * n) a ++ b) h
 
 -- an answer that has no lines
-none : {due : Served} {answer : Answer} (width : ℕ) (area : List ℤ) → answer ≡ due.answer
+none : {due : Served} {answer : Outcome Answer} (width : ℕ) (area : List ℤ) → answer ≡ due.answer
     → line_count due.answer ≡ 0 → due.lines ≡ [] → Serves due answer width area
 unfolding chunks
 none {due} {answer} width area e z l =
@@ -69,16 +66,16 @@ list-room order list_size group_size fits = go (listing order list_size group_si
   where
     go : (o : Outcome Listing) → listing order list_size group_size ≡ o
         → line_count (list_end order.n list_size group_size o).answer * order.n ≤ length (list_end order.n list_size group_size o).list
-    go (refused number place) e = omega arith
+    go (Err r) e = omega arith
     go (accepted found) e =
         held-room order.n fits found.rows
         (rows-narrow order found (listing-facts order list_size group_size found e)) list_size refl
 
 -- LIST on an accepted file: the area may go on
-pub list-serves : (file : List ℕ) (c : Counts) {order : Order} {size group : ℕ} {answer : Answer} {list : List ℤ} {table : List ℕ} (rest : List ℤ)
+pub list-serves : (file : List ℕ) (c : Counts) {order : Order} {size group : ℕ} {answer : Outcome Answer} {list : List ℤ} {table : List ℕ} (rest : List ℤ)
     → c.cells ≤ cells
     → ListPromise order size group answer list table → order ≡ order_in file c → size ≡ list_size c → group ≡ group_size c
-    → Serves (served_by ListService file (Accepted c)) answer c.cells (list ++ rest)
+    → Serves (served_by ListService file (accepted c)) answer c.cells (list ++ rest)
 unfolding served_by
 list-serves file c {order} {size} {group} {answer} {list} rest fits P e s g =
     let due = list_call (order_in file c) (list_size c) (group_size c) in
@@ -86,13 +83,13 @@ list-serves file c {order} {size} {group} {answer} {list} rest fits P e s g =
     let says = P.answers ∙ ap (λ (x : ListEnd). x.answer) same in
     let holds = P.list_holds ∙ ap (λ (x : ListEnd). x.list) same in
     let room : line_count answer * c.cells ≤ length list =
-    subst⁻¹ (λ (x : Answer). line_count x * c.cells ≤ length list) says
+    subst⁻¹ (λ (x : Outcome Answer). line_count x * c.cells ≤ length list) says
     (subst⁻¹ (λ (x : List ℤ). line_count due.answer * c.cells ≤ length x) holds (list-room (order_in file c) (list_size c) (group_size c) fits)) in
     record {
       answers = says;
       lines =
           first_chunks c.cells (line_count answer) list rest room
-          ∙ ap₂ (λ (x : Answer) (y : List ℤ). chunks c.cells (line_count x) y) says holds;
+          ∙ ap₂ (λ (x : Outcome Answer) (y : List ℤ). chunks c.cells (line_count x) y) says holds;
       room = omega (arith, room, length-append list rest);
     }
 
@@ -109,7 +106,7 @@ split-room order vector list_size group_size size = go (parts order vector list_
 
     go : (o : Outcome Parts)
         → line_count (split_end order.n list_size group_size size o).answer * piece_width ≤ length (split_end order.n list_size group_size size o).pieces
-    go (refused number place) = omega arith
+    go (Err r) = omega arith
     go (accepted found) =
         let numbers = concat (map written found.pieces) in
         omega
@@ -117,10 +114,10 @@ split-room order vector list_size group_size size = go (parts order vector list_
 
 -- SPLIT on an accepted file
 pub split-serves : (file : List ℕ) (c : Counts) {order : Order} {vector : List ℤ} {size group room : ℕ}
-    {answer : Answer} {list : List ℤ} {table : List ℕ} {pieces : List ℤ}
+    {answer : Outcome Answer} {list : List ℤ} {table : List ℕ} {pieces : List ℤ}
     → SplitPromise order vector size group room answer list table pieces → order ≡ order_in file c
     → vector ≡ vector_in file c → size ≡ list_size c → group ≡ group_size c → room ≡ pieces_size
-    → Serves (served_by SplitService file (Accepted c)) answer piece_width pieces
+    → Serves (served_by SplitService file (accepted c)) answer piece_width pieces
 unfolding served_by
 split-serves file c {order} {vector} {size} {group} {room} {answer} {pieces = pieces} P e v s g q =
     let due = split_call (order_in file c) (vector_in file c) (list_size c) (group_size c) pieces_size in
@@ -129,9 +126,9 @@ split-serves file c {order} {vector} {size} {group} {room} {answer} {pieces = pi
     let holds = P.pieces_holds ∙ ap (λ (x : SplitEnd). x.pieces) same in
     record {
       answers = says;
-      lines = ap₂ (λ (x : Answer) (y : List ℤ). chunks piece_width (line_count x) y) says holds;
+      lines = ap₂ (λ (x : Outcome Answer) (y : List ℤ). chunks piece_width (line_count x) y) says holds;
       room =
-          subst⁻¹ (λ (x : Answer). line_count x * piece_width ≤ length pieces) says
+          subst⁻¹ (λ (x : Outcome Answer). line_count x * piece_width ≤ length pieces) says
           (subst⁻¹ (λ (x : List ℤ). line_count due.answer * piece_width ≤ length x) holds (split-room (order_in file c) (vector_in file c) (list_size c) (group_size c) pieces_size));
     }
 
@@ -139,10 +136,10 @@ split-serves file c {order} {vector} {size} {group} {room} {answer} {pieces = pi
 
 -- CHECK on an accepted file
 pub check-says : (file : List ℕ) (c : Counts) {order : Order} {rows coefficients : List ℤ} {group : ℕ}
-    {answer : Answer} {table : List ℕ}
+    {answer : Outcome Answer} {table : List ℕ}
     → CheckPromise order rows coefficients group answer table → order ≡ order_in file c → rows ≡ rows_in file c
     → coefficients ≡ coefficients_in file c → group ≡ group_size c
-    → answer ≡ (served_by CheckService file (Accepted c)).answer
+    → answer ≡ (served_by CheckService file (accepted c)).answer
 unfolding served_by
 check-says file c {order} {rows} {coefficients} {group} P e r q g =
     let same : check_call order rows coefficients group ≡ check_call (order_in file c) (rows_in file c) (coefficients_in file c) (group_size c) =
@@ -156,35 +153,35 @@ unfolding check_call check_end
 check-lines order rows coefficients size = go (check_fault order rows coefficients size)
   where
     go : (fault : Fault) → line_count (check_end size (length rows / order.n) (table_of order size) fault).answer ≡ 0
-    go (At number place) = refl
-    go None = refl
+    go (Err r) = refl
+    go no_fault = refl
 
 -- ---- any file
 
 -- a refusal of its scan
 pub refused-serves : (service : Service) (file : List ℕ) {number place : ℕ} (width : ℕ) (area : List ℤ)
-    → scan_of service file ≡ RefusedFile number place → Serves (served service file) (Refused number place) width area
+    → scan_of service file ≡ refused number place → Serves (served service file) (refused number place) width area
 unfolding served served_by chunks
 refused-serves service file {number} {place} width area e =
-    subst⁻¹ (λ (s : Scanned). Serves (served_by service file s) (Refused number place) width area) e
+    subst⁻¹ (λ (s : Outcome Counts). Serves (served_by service file s) (refused number place) width area) e
     (none width area refl refl refl)
 
 -- what is answered to an order that it accepts
-pub accepted-serves : (service : Service) (file : List ℕ) {c : Counts} {answer : Answer} {width : ℕ} {area : List ℤ}
-    → scan_of service file ≡ Accepted c → Serves (served_by service file (Accepted c)) answer width area
+pub accepted-serves : (service : Service) (file : List ℕ) {c : Counts} {answer : Outcome Answer} {width : ℕ} {area : List ℤ}
+    → scan_of service file ≡ accepted c → Serves (served_by service file (accepted c)) answer width area
     → Serves (served service file) answer width area
 unfolding served
 accepted-serves service file {answer = answer} {width} {area} e =
-    subst⁻¹ (λ (s : Scanned). Serves (served_by service file s) answer width area) e
+    subst⁻¹ (λ (s : Outcome Counts). Serves (served_by service file s) answer width area) e
 
 -- the answer of a Check, with any area
-pub check-serves : (file : List ℕ) {answer : Answer} (width : ℕ) (area : List ℤ)
+pub check-serves : (file : List ℕ) {answer : Outcome Answer} (width : ℕ) (area : List ℤ)
     → answer ≡ (served CheckService file).answer → Serves (served CheckService file) answer width area
 unfolding served served_by chunks
 check-serves file {answer} width area e = go (scan_of CheckService file) e
   where
-    go : (s : Scanned) → answer ≡ (served_by CheckService file s).answer
+    go : (s : Outcome Counts) → answer ≡ (served_by CheckService file s).answer
         → Serves (served_by CheckService file s) answer width area
-    go (RefusedFile number place) q = none width area q refl refl
-    go (Accepted c) q =
+    go (Err r) q = none width area q refl refl
+    go (accepted c) q =
         none width area q (check-lines (order_in file c) (rows_in file c) (coefficients_in file c) (group_size c)) refl

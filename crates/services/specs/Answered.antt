@@ -1,14 +1,15 @@
 -- What the parts of the services promise (Specification 1.2, 1.3 and 9.4). Assumes nothing.
+use Rattle.definitions.specs.Refusals.{Outcome, accepted}
+use Rattle.std.specs.declared.result.Result.TheVariants.{Err}
 use Rattle.std.specs.Prelude.{◌≡◌, List, ℕ, ◌*◌, ◌≤◌, ◌<◌, ℤ, length, take}
 use Rattle.definitions.specs.declared.Answer.{Answer}
-use Rattle.definitions.specs.declared.Answer.TheVariants.{Moves, Split, Passed, Refused}
+use Rattle.definitions.specs.declared.Answer.TheVariants.{Moves, Split, Passed}
 use Rattle.definitions.specs.Limits.{bare_limit, cells, exchange_limit, generator_limit}
 use Rattle.definitions.specs.Lent.{chunks, filled}
 use Rattle.theory.proofs.Refused.{place_limit}
 use Rattle.vectors.specs.Areas.{LentMut}
 use Rattle.orders.specs.declared.Service.{Service}
 use Rattle.orders.specs.declared.Counts.{Counts}
-use Rattle.orders.specs.declared.Scanned.TheVariants.{Counted as Accepted}
 use Rattle.orders.specs.Operands.{Readable, exchanges_in, generators_in, images_in}
 use Rattle.answers.specs.Answers.{line_count}
 use Rattle.answers.specs.Refusal.{place_factor}
@@ -38,10 +39,10 @@ pub record OrderRead (file : List ℕ) (c : Counts) (generators : List ℤ) (exc
 
 -- what is due to an accepted file with these counts
 abbrev pub served_in : Service → (file : List ℕ) → Counts → Served
-served_in service file c = served_by service file (Accepted c)
+served_in service file c = served_by service file (accepted c)
 
 -- the answer is the one that is due, and its lines are the first rows of `width` numbers of an area
-pub record Serves (due : Served) (answer : Answer) (width : ℕ) (area : List ℤ) : Type 0 where
+pub record Serves (due : Served) (answer : Outcome Answer) (width : ℕ) (area : List ℤ) : Type 0 where
   pub answers : answer ≡ due.answer
   pub lines : chunks width (line_count answer) area ≡ due.lines
   pub room : line_count answer * width ≤ length area
@@ -56,11 +57,11 @@ abbrev pub EndsIn : (area : LentMut ℕ) (due : (size : ℕ) → CallEnd) (resul
 EndsIn area due result = Ends (due (length area.entry.now)) result area.exit.now
 
 -- a refusal whose number and place can be read from the result
-abbrev pub Small : Answer → Type 0
-Small (Refused number place) = (number < place_factor) × (place ≤ place_limit)
-Small (Moves rows members stored sums) = Unit {0}
-Small (Split pieces rows members stored sums) = Unit {0}
-Small (Passed rows sums) = Unit {0}
+abbrev pub Small : Outcome Answer → Type 0
+Small (Err r) = (r.number < place_factor) × (r.place ≤ place_limit)
+Small (accepted (Moves rows members stored sums)) = Unit {0}
+Small (accepted (Split pieces rows members stored sums)) = Unit {0}
+Small (accepted (Passed rows sums)) = Unit {0}
 
 -- n counts bytes at the start of xs: what a part of so many bytes asks
 abbrev pub Counted : (n : ℕ) (xs : List ℕ) → Type 0

@@ -14,16 +14,16 @@ ghost use Rattle.services.specs.Answered.{OrderFits, OrderRead, Serves, served_i
 ghost use Rattle.services.specs.Answered.{Counted, EndsIn, PrintedFor, PrintsIn, Small};
 
 use answers::lengths::TEXT_LIMIT;
-use definitions::Answer;
 use definitions::limits::{
     BARE_LIMIT, CELLS, EXCHANGE_LIMIT, GENERATOR_LIMIT, GROUP_LIMIT, LENT_PIECES, LIST_LIMIT,
     ORDER_LIMIT, PIECE_WIDTH,
 };
+use definitions::{Answer, Refusal};
 use orders::operands::{
     read_coefficients, read_exchanges, read_generators, read_images, read_rows, read_vector,
 };
-use orders::{Counts, Scanned, Service};
-use vectors::clear_bytes;
+use orders::{Counts, Service};
+use vectors::clear;
 
 // The numbers of the areas for any order.
 const GENERATOR_NUMBERS: usize = GENERATOR_LIMIT * CELLS;
@@ -48,7 +48,7 @@ pub const ANSWER_BYTES: usize = TEXT_LIMIT;
 // An answer, and the numbers of each of its lines.
 #[derive(Clone, Copy)]
 struct Reply {
-    answer: Answer,
+    answer: Result<Answer, Refusal>,
     width: usize,
 }
 
@@ -76,8 +76,8 @@ fn list_order(
     exchanges: &[u8],
     images: &[i64],
     list: &mut [i32],
-) -> Answer
-    requires accepted { scan_of Service.List order.now ≡ Scanned.Counted c }
+) -> Result<Answer, Refusal>
+    requires accepted { scan_of Service.List order.now ≡ Ok c }
     requires read { OrderRead order.now c generators.now exchanges.now images.now }
     requires room { list_limit * cells ≤ length list.old }
     ensures served { Serves (served_in Service.List order.now c) result c.cells list.new }
@@ -100,8 +100,8 @@ fn list_order(
 }
 
 // List on an accepted file: its answer, and its rows at the start of an area for any list (Specification 1.2).
-fn list_file(order: &[u8], c: Counts, list: &mut [i32]) -> Answer
-    requires accepted { scan_of Service.List order.now ≡ Scanned.Counted c }
+fn list_file(order: &[u8], c: Counts, list: &mut [i32]) -> Result<Answer, Refusal>
+    requires accepted { scan_of Service.List order.now ≡ Ok c }
     requires room { list_limit * cells ≤ length list.old }
     ensures served { Serves (served_in Service.List order.now c) result c.cells list.new }
 {
@@ -120,8 +120,8 @@ fn split_order(
     exchanges: &[u8],
     images: &[i64],
     pieces: &mut [i32],
-) -> Answer
-    requires accepted { scan_of Service.Split order.now ≡ Scanned.Counted c }
+) -> Result<Answer, Refusal>
+    requires accepted { scan_of Service.Split order.now ≡ Ok c }
     requires read { OrderRead order.now c generators.now exchanges.now images.now }
     requires room { length pieces.old ≡ pieces_size }
     ensures served { Serves (served_in Service.Split order.now c) result piece_width pieces.new }
@@ -149,8 +149,8 @@ fn split_order(
 }
 
 // Split on an accepted file: its answer, and its pieces in the pieces area (Specification 1.2).
-fn split_file(order: &[u8], c: Counts, pieces: &mut [i32]) -> Answer
-    requires accepted { scan_of Service.Split order.now ≡ Scanned.Counted c }
+fn split_file(order: &[u8], c: Counts, pieces: &mut [i32]) -> Result<Answer, Refusal>
+    requires accepted { scan_of Service.Split order.now ≡ Ok c }
     requires room { length pieces.old ≡ pieces_size }
     ensures served { Serves (served_in Service.Split order.now c) result piece_width pieces.new }
 {
@@ -168,8 +168,8 @@ fn check_order(
     generators: &[i32],
     exchanges: &[u8],
     images: &[i64],
-) -> Answer
-    requires accepted { scan_of Service.Check order.now ≡ Scanned.Counted c }
+) -> Result<Answer, Refusal>
+    requires accepted { scan_of Service.Check order.now ≡ Ok c }
     requires read { OrderRead order.now c generators.now exchanges.now images.now }
     ensures served { result ≡ (served_in Service.Check order.now c).answer }
 {
@@ -197,8 +197,8 @@ fn check_order(
 }
 
 // Check on an accepted file: its answer (Specification 1.2).
-fn check_file(order: &[u8], c: Counts) -> Answer
-    requires accepted { scan_of Service.Check order.now ≡ Scanned.Counted c }
+fn check_file(order: &[u8], c: Counts) -> Result<Answer, Refusal>
+    requires accepted { scan_of Service.Check order.now ≡ Ok c }
     ensures served { result ≡ (served_in Service.Check order.now c).answer }
 {
     let mut generators = [0i32; GENERATOR_NUMBERS];
@@ -213,43 +213,33 @@ fn serve_list(order: &[u8], list: &mut [i32]) -> Reply
     requires room { list_limit * cells ≤ length list.old }
     ensures served { Serves (served Service.List order.now) result.answer result.width list.new }
 {
-    let found = orders::scan(order, Service::List);
-    match found {
-        Scanned::Refused { number, place } => Reply {
-            answer: Answer::Refused { number, place },
+    match orders::scan(order, Service::List) {
+        Err(refusal) => Reply {
+            answer: Err(refusal),
             width: 0,
         },
-        Scanned::Counted(c) => {
-            let answer = list_file(order, c, list);
-            Reply {
-                answer,
-                width: c.cells,
-            }
-        }
+        Ok(c) => Reply {
+            answer: list_file(order, c, list),
+            width: c.cells,
+        },
     }
 }
 
 // Split on any file: its answer, and its pieces in the pieces area.
-fn serve_split(order: &[u8], pieces: &mut [i32]) -> Answer
+fn serve_split(order: &[u8], pieces: &mut [i32]) -> Result<Answer, Refusal>
     requires room { length pieces.old ≡ pieces_size }
     ensures served { Serves (served Service.Split order.now) result piece_width pieces.new }
 {
-    let found = orders::scan(order, Service::Split);
-    match found {
-        Scanned::Refused { number, place } => Answer::Refused { number, place },
-        Scanned::Counted(c) => split_file(order, c, pieces),
-    }
+    let c = orders::scan(order, Service::Split)?;
+    split_file(order, c, pieces)
 }
 
 // Check on any file: its answer.
-fn serve_check(order: &[u8]) -> Answer
+fn serve_check(order: &[u8]) -> Result<Answer, Refusal>
     ensures served { result ≡ (served Service.Check order.now).answer }
 {
-    let found = orders::scan(order, Service::Check);
-    match found {
-        Scanned::Refused { number, place } => Answer::Refused { number, place },
-        Scanned::Counted(c) => check_file(order, c),
-    }
+    let c = orders::scan(order, Service::Check)?;
+    check_file(order, c)
 }
 
 // A call that ends with a refusal: its area is cleared (Specification 9.4).
@@ -257,12 +247,12 @@ fn refuse(area: &mut [u8], number: u64, place: u64) -> i64
     requires fits { refusal_code number place < 2 ^ 63 }
     ensures ends { EndsIn area (λ size. refused_end size number place) result }
 {
-    clear_bytes(area, 0);
+    clear(area, 0, 0);
     answers::refusal(number, place)
 }
 
 // A call that ends with a text: its length, or 6 at 0 where it is longer than the area (Specification 9.4).
-fn lay(area: &mut [u8], answer: Answer, numbers: &[i32], width: usize) -> i64
+fn lay(area: &mut [u8], answer: Result<Answer, Refusal>, numbers: &[i32], width: usize) -> i64
     requires rows { line_count answer * width ≤ length numbers.now }
     ensures ends { EndsIn area (λ size. text_end size (rows_text answer width numbers.now)) result }
 {
@@ -275,19 +265,24 @@ fn lay(area: &mut [u8], answer: Answer, numbers: &[i32], width: usize) -> i64
 }
 
 // A call that ends with an answer, whose lines are the first rows of `width` numbers (Specification 9.4).
-fn respond(area: &mut [u8], answer: Answer, numbers: &[i32], width: usize) -> i64
+fn respond(area: &mut [u8], answer: Result<Answer, Refusal>, numbers: &[i32], width: usize) -> i64
     requires rows { line_count answer * width ≤ length numbers.now }
     requires small { Small answer }
     ensures ends { EndsIn area (λ size. end_by size answer (rows_text answer width numbers.now)) result }
 {
-    let Answer::Refused { number, place } = answer else {
-        return lay(area, answer, numbers, width);
-    };
-    refuse(area, number, place)
+    if let Err(Refusal { number, place }) = answer {
+        return refuse(area, number, place);
+    }
+    lay(area, answer, numbers, width)
 }
 
 // The text of an answer in an area that has room for any, and its length (Specification 1.3).
-fn print(area: &mut [u8; ANSWER_BYTES], answer: Answer, numbers: &[i32], width: usize) -> usize
+fn print(
+    area: &mut [u8; ANSWER_BYTES],
+    answer: Result<Answer, Refusal>,
+    numbers: &[i32],
+    width: usize,
+) -> usize
     requires rows { line_count answer * width ≤ length numbers.now }
     ensures roomy { text_limit ≤ length area.old }
     ensures laid { PrintsIn area (rows_text answer width numbers.now) result }

@@ -1,5 +1,7 @@
 -- An order on its half of the list area: the cleared half in which it begins, and its end (Specification 3.1, 3.5 and
 -- 3.8). Assumes nothing.
+use Rattle.definitions.specs.Refusals.{Outcome, accepted, refused}
+use Rattle.std.specs.declared.result.Result.TheVariants.{Err}
 use mathlib.Core.Path.{◌≡◌, refl, sym, ◌∙◌, ap, ap₂, subst}
 use mathlib.Core.Bool.{Bool, true, cond}
 use mathlib.Core.List.{List, []}
@@ -31,8 +33,6 @@ use Rattle.reduction.specs.Marks.{RowsMarked}
 use Rattle.reduction.proofs.Lent.{sequences-count}
 use Rattle.completion.specs.declared.Sizes.{Sizes}
 use Rattle.completion.specs.declared.State.{State}
-use Rattle.completion.specs.declared.Completion.{Completion}
-use Rattle.completion.specs.declared.Completion.TheVariants.{Running, Stopped}
 use Rattle.completion.specs.Machine.{After, Areas, Ready, begun_in, sizes_of, state_in}
 use Rattle.completion.proofs.Facts.{rows_are, rows-ready}
 use Rattle.certified.proofs.Advancing as Advancing
@@ -50,11 +50,11 @@ cleared-half n list l e = e ∙ ap (λ (k : ℕ). filled (pos 0) k []) l
 -- ---- the end
 
 -- the same end, for another name of what the order has come to
-ends_same : {n : ℕ} {result other : Result} {list : List ℤ} {r : Ending} → other ≡ result
+ends_same : {n : ℕ} {result other : Result} {list : List ℤ} {r : Outcome Ending} → other ≡ result
     → OrderEnds n result list r → OrderEnds n other list r
 ends_same {n} {list = list} {r = r} e E = subst (λ (x : Result). OrderEnds n x list r) (sym e) E
 
-module _ {sizes : Sizes} {table : List ℕ} {list : List ℤ} {marks keys : List ℕ} {c : Completion}
+module _ {sizes : Sizes} {table : List ℕ} {list : List ℤ} {marks keys : List ℕ} {c : Outcome State}
     (S : Standing sizes table list marks keys c) (l : length list ≡ half sizes.shape.n) where
   abbrev shape : Shape
   shape = sizes.shape
@@ -63,15 +63,15 @@ module _ {sizes : Sizes} {table : List ℕ} {list : List ℤ} {marks keys : List
   G = sequences_in shape table
 
   -- the order was turned down
-  pub ends-refused : {list' : List ℤ} {number place : ℕ} → c ≡ Stopped number place
+  pub ends-refused : {list' : List ℤ} {number place : ℕ} → c ≡ refused number place
       → list' ≡ cleared_from (pos 0) 0 list
-      → OrderEnds shape.n (result_in shape table list c) list' (ending.Refused number place)
+      → OrderEnds shape.n (result_in shape table list c) list' (refused number place)
   unfolding result_of ending_of half_of
   ends-refused e z =
       ends_same (ap (result_in shape table list) e) (record { answer = refl; holds = cleared-half shape.n list l z })
 
   -- it is under way
-  module _ {s : State} (e : c ≡ Running s) where
+  module _ {s : State} (e : c ≡ accepted s) where
     ready : Ready sizes table list marks keys s
     ready = (subst (Standing sizes table list marks keys) e S).ready
 
@@ -108,7 +108,7 @@ module _ {sizes : Sizes} {table : List ℕ} {list : List ℤ} {marks keys : List
 
     -- a sum is left
     pub ends-unfinished : {list' : List ℤ} → s.i < s.stored → list' ≡ cleared_from (pos 0) 0 list
-        → OrderEnds shape.n (result_in shape table list c) list' (ending.Unfinished s.sums)
+        → OrderEnds shape.n (result_in shape table list c) list' (accepted (ending.Unfinished s.sums))
     unfolding ending_of half_of
     ends-unfinished left z =
         ends_same (result-is (Advancing.unfinished ready left))
@@ -118,14 +118,14 @@ module _ {sizes : Sizes} {table : List ℕ} {list : List ℤ} {marks keys : List
     pub ends-listed : {final : List ℤ} {count : ℕ} → s.stored ≤ s.i
         → Finished (record { shape = shape; k = s.stored }) table list final count
         → OrderEnds shape.n (result_in shape table list c) final
-        (ending.Moves count shape.g s.stored s.sums)
+        (accepted (ending.Moves count shape.g s.stored s.sums))
     unfolding listing_of ending_of half_of
     ends-listed none F =
         let kept = final_rows G rows in
         ends_same (result-is (finished ready none)) (record {
           answer =
-              ap₂ (λ (a b : ℕ). ending.Moves a b s.stored s.sums) F.counted (sym (sequences-count shape table))
-              ∙ ap (λ (k : ℕ). ending.Moves (length kept) (length G) k s.sums) (sym (rows_are ready));
+              ap₂ (λ (a b : ℕ). (accepted (ending.Moves a b s.stored s.sums))) F.counted (sym (sequences-count shape table))
+              ∙ ap (λ (k : ℕ). (accepted (ending.Moves (length kept) (length G) k s.sums))) (sym (rows_are ready));
           holds = F.lies ∙ ap (λ (k : ℕ). filled (pos 0) k (numbers_of shape.n kept)) l;
         })
 
@@ -163,21 +163,21 @@ module _ {shape : Shape} {generators : List ℤ} {table : List ℕ} (D : Grouped
         }
 
     -- step 1 leaves it as it should be
-    pub begun-standing : {list' : List ℤ} {marks keys : List ℕ} {c : Completion} → length list' ≡ length list
+    pub begun-standing : {list' : List ℤ} {marks keys : List ℕ} {c : Outcome State} → length list' ≡ length list
         → session_rows * group_limit ≤ length marks
         → After shape table list' marks keys (begun_in sizes table generators) c
         → Standing sizes table list' marks keys c
     begun-standing {list'} {marks} {keys} {c} k m B = go c B
       where
-        go : (c : Completion) → After shape table list' marks keys (begun_in sizes table generators) c
+        go : (c : Outcome State) → After shape table list' marks keys (begun_in sizes table generators) c
             → Standing sizes table list' marks keys c
-        go (Stopped number place) B = record { ready = tt }
-        go (Running s) B =
+        go (Err r) B = record { ready = tt }
+        go (accepted s) B =
             let areas = cleared-areas {marks = marks} m in
             record { ready = first-ready sizes generators generators s B areas k D.admissible refl }
 
   -- step 1, the steps, and the end
-  pub ends-taken : {list list' final : List ℤ} {marks keys marks' keys' : List ℕ} {c last : Completion} {r : Ending}
+  pub ends-taken : {list list' final : List ℤ} {marks keys marks' keys' : List ℕ} {c last : Outcome State} {r : Outcome Ending}
       (count : ℕ) → After shape table list marks keys (begun_in sizes table generators) c
       → Taken sizes table list' marks' keys' (taken_in sizes table list c count) last
       → OrderEnds shape.n (result_in shape table list' last) final r

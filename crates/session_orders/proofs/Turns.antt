@@ -1,4 +1,6 @@
 -- One step of an order, and the end of its steps (Specification 3.2 to 3.4 and 3.8). Assumes nothing.
+use Rattle.definitions.specs.Refusals.{Outcome, accepted, refused}
+use Rattle.std.specs.declared.result.Result.TheVariants.{Err}
 use mathlib.Core.Path.{◌≡◌, sym, ◌∙◌, ap, subst}
 use mathlib.Core.Bool.{true}
 use mathlib.Core.List.{List}
@@ -13,8 +15,6 @@ use Rattle.theory.proofs.Steps.{steps, steps-over}
 use Rattle.reduction.specs.Areas.{sequences_in}
 use Rattle.completion.specs.declared.Sizes.{Sizes}
 use Rattle.completion.specs.declared.State.{State}
-use Rattle.completion.specs.declared.Completion.{Completion}
-use Rattle.completion.specs.declared.Completion.TheVariants.{Running, Stopped}
 use Rattle.completion.specs.Machine.{After, Ready, completion_in, state_in, stepped_in}
 use Rattle.completion.proofs.Facts.{areas-again, rows_are}
 use Rattle.certified.proofs.Advancing.{sound-next}
@@ -28,17 +28,17 @@ finished {sizes} {list = list} {s = s} R h =
     le-leb (length (state_in sizes.shape.n list s).rows) s.i (omega (arith, rows_are R))
 
 -- what holds whenever the loop's test is reached: the steps that are left come to the end of all
-pub record Looped (sizes : Sizes) (table : List ℕ) (list : List ℤ) (marks keys : List ℕ) (c : Completion) (left : ℕ)
+pub record Looped (sizes : Sizes) (table : List ℕ) (list : List ℤ) (marks keys : List ℕ) (c : Outcome State) (left : ℕ)
     (end : Defined.Completion) : Type 0 where
   pub standing : Standing sizes table list marks keys c
   pub same : taken_in sizes table list c left ≡ end
 
 module _ {sizes : Sizes} {table : List ℕ} {list : List ℤ} {marks keys : List ℕ} {left : ℕ}
     {end : Defined.Completion} where
-  module _ {c : Completion} (L : Looped sizes table list marks keys c left end) where
+  module _ {c : Outcome State} (L : Looped sizes table list marks keys c left end) where
     -- for a completion by its case
-    pub looped_is : {d : Completion} → c ≡ d → Looped sizes table list marks keys d left end
-    looped_is e = subst (λ (d : Completion). Looped sizes table list marks keys d left end) e L
+    pub looped_is : {d : Outcome State} → c ≡ d → Looped sizes table list marks keys d left end
+    looped_is e = subst (λ (d : Outcome State). Looped sizes table list marks keys d left end) e L
 
     -- no step is left
     pub looped-end : left ≤ 0 → Taken sizes table list marks keys end c
@@ -56,23 +56,23 @@ module _ {sizes : Sizes} {table : List ℕ} {list : List ℤ} {marks keys : List
         }
 
     -- .. it was turned down
-    pub looped-stopped : {number place : ℕ} → c ≡ Stopped number place → Taken sizes table list marks keys end c
+    pub looped-stopped : {number place : ℕ} → c ≡ refused number place → Taken sizes table list marks keys end c
     unfolding is_over
-    looped-stopped e = looped-over (ap (λ (d : Completion). is_over (completion_in sizes.shape.n list d)) e)
+    looped-stopped e = looped-over (ap (λ (d : Outcome State). is_over (completion_in sizes.shape.n list d)) e)
 
-  module _ {s : State} (L : Looped sizes table list marks keys (Running s) left end) where
+  module _ {s : State} (L : Looped sizes table list marks keys (accepted s) left end) where
     -- .. it has no sum left
-    pub looped-finished : s.stored ≤ s.i → Taken sizes table list marks keys end (Running s)
+    pub looped-finished : s.stored ≤ s.i → Taken sizes table list marks keys end (accepted s)
     unfolding is_over
     looped-finished h = looped-over L (finished L.standing.ready h)
 
     -- one more step
     module _ (unfinished : s.i < s.stored) {list' : List ℤ} {marks' keys' : List ℕ} (l : length list' ≡ length list)
         (m : length marks' ≡ length marks) where
-      standing-next : (r : Completion) → After sizes.shape table list' marks' keys' (stepped_in sizes table list s) r
+      standing-next : (r : Outcome State) → After sizes.shape table list' marks' keys' (stepped_in sizes table list s) r
           → Standing sizes table list' marks' keys' r
-      standing-next (Stopped number place) A = record { ready = tt }
-      standing-next (Running t) A =
+      standing-next (Err r) A = record { ready = tt }
+      standing-next (accepted t) A =
           let R = L.standing.ready in
           record {
             ready = record {
@@ -84,7 +84,7 @@ module _ {sizes : Sizes} {table : List ℕ} {list : List ℤ} {marks keys : List
             };
           }
 
-      pub looped-next : 0 < left → {r : Completion}
+      pub looped-next : 0 < left → {r : Outcome State}
           → After sizes.shape table list' marks' keys' (stepped_in sizes table list s) r
           → Looped sizes table list' marks' keys' r (left - 1) end
       looped-next some {r} A =

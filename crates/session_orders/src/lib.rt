@@ -6,9 +6,9 @@ ghost use Rattle.definitions.specs.Session.{half, steps_of};
 ghost use Rattle.moves.specs.Found.{Grouped};
 ghost use Rattle.session_orders.specs.Ends.{EndsIn, OrderEnds, Standing, Taken, result_in, taken_in};
 
-use completion::{Completion, Sizes, begin, step};
-use definitions::Ending;
+use completion::{Sizes, State, begin, step};
 use definitions::limits::{GROUP_LIMIT, SESSION_ROWS};
+use definitions::{Ending, Refusal};
 use moves::KEYS;
 use reduction::{Extent, Shape};
 use vectors::clear;
@@ -21,80 +21,75 @@ pub fn count_steps(steps: &[u8], byte: u8) -> usize
     ensures counted { result ≡ steps_of byte steps.now }
 {
     let mut count = 0;
-    let mut i = 0;
-    while i < steps.len() {
-        if steps[i] == byte {
+    for step in steps {
+        if *step == byte {
             count += 1;
         }
-        i += 1;
     }
     count
 }
 
 // `count` steps, each trying a sum while one is left (Specification 3.2 to 3.4).
 fn take_steps(
-    start: Completion,
+    start: Result<State, Refusal>,
     count: usize,
     list: &mut [i32],
     table: &[u8],
     sizes: Sizes,
     marks: &mut [u8],
     keys: &mut [u64],
-) -> Completion
+) -> Result<State, Refusal>
     requires standing { Standing sizes table.now list.old marks.old keys.old start }
     ensures taken { let end = taken_in sizes table.now list.old start count in
         Taken sizes table.now list.new marks.new keys.new end result }
 {
     let mut c = start;
-    let mut left = count;
-    while 0 < left {
-        let Completion::Running(s) = c else {
+    for left in (0..count).rev() {
+        let Ok(s) = c else {
             return c;
         };
         if s.stored <= s.i {
             return c;
         }
-        let next = step(s, &mut *list, table, sizes, &mut *marks, &mut *keys);
-        c = next;
-        left -= 1;
+        c = step(s, &mut *list, table, sizes, &mut *marks, &mut *keys);
     }
     c
 }
 
 // The end of an order: its list in its half, with zeros behind, or zeros alone (Specification 3.5 and 3.8).
 fn end_order(
-    c: Completion,
+    c: Result<State, Refusal>,
     list: &mut [i32],
     table: &[u8],
     sizes: Sizes,
     marks: &[u8],
     keys: &[u64],
-) -> Ending
+) -> Result<Ending, Refusal>
     requires standing { Standing sizes table.now list.old marks.now keys.now c }
     requires sized { length list.old ≡ half sizes.shape.n }
     ensures ended { OrderEnds sizes.shape.n (result_in sizes.shape table.now list.old c) list.new result }
 {
     match c {
-        Completion::Stopped { number, place } => {
-            clear(list, 0);
-            Ending::Refused { number, place }
+        Err(refusal) => {
+            clear(list, 0, 0);
+            Err(refusal)
         }
-        Completion::Running(s) => {
+        Ok(s) => {
             if s.i < s.stored {
-                clear(list, 0);
-                return Ending::Unfinished { sums: s.sums };
+                clear(list, 0, 0);
+                return Ok(Ending::Unfinished { sums: s.sums });
             }
             let stored = s.stored;
             let shape = sizes.shape;
             let mut flags = [0u8; SESSION_ROWS];
             let extent = Extent { shape, k: stored };
             let rows = sorting::finish(list, table, extent, marks, keys, &mut flags);
-            Ending::Moves {
+            Ok(Ending::Moves {
                 rows: rows as u64,
                 members: shape.g as u64,
                 stored: stored as u64,
                 sums: s.sums,
-            }
+            })
         }
     }
 }
@@ -106,12 +101,12 @@ pub fn complete_order(
     table: &[u8],
     shape: Shape,
     count: usize,
-) -> Ending
+) -> Result<Ending, Refusal>
     requires grouped { Grouped shape generators.now table.now }
     requires sized { length list.old ≡ half shape.n }
     ensures ended { EndsIn shape generators list table count result }
 {
-    clear(&mut *list, 0);
+    clear(&mut *list, 0, 0);
     let mut marks = [0u8; MARKS];
     let mut keys = [0u64; KEYS];
     let sizes = Sizes {

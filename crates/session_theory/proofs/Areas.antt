@@ -1,13 +1,12 @@
 -- WHAT THE AREAS OF A SESSION HOLD. Assumes nothing.
+use Rattle.std.specs.declared.result.Result.TheVariants.{Err}
+use Rattle.definitions.specs.Refusals.{Fault, no_fault}
 use mathlib.Core.Path.{◌≡◌, refl, sym, ◌∙◌, ap, ap₂, subst}
 use mathlib.Core.Bool.{Bool, true, false, cond, ◌&&◌}
 use mathlib.Core.List.{List, []}
 use Prim.Native.Nat.{ℕ}
 use lib.IntN.{pos}
 use lib.ListN.{replicate}
-use Rattle.definitions.specs.declared.Ending.TheVariants.{Refused}
-use Rattle.definitions.specs.declared.Fault.{Fault}
-use Rattle.definitions.specs.declared.Fault.TheVariants.{None, At}
 use Rattle.definitions.specs.Lists.{concat}
 use Rattle.definitions.specs.Group.{Exchange}
 use Rattle.definitions.specs.Lent.{Order, exchanges_of, filled, rows_of, table_of}
@@ -26,22 +25,22 @@ use Rattle.session_theory.proofs.Parts.{answer₀, answer₁, result₀, result�
 not-refused : (result : Result) → Left (ending_of result) → is_refused result ≡ false
 unfolding is_refused ending_of
 not-refused (ended (accepted found)) f = refl
-not-refused (ended (refused number place)) f = absurd (f number place refl)
+not-refused (ended (Err r)) f = absurd (f r.number r.place refl)
 not-refused (unfinished sums) f = refl
 
 -- an order that is left meets no test
 left-none : (order other : Order) (list_size group_size : ℕ) (table : List Exchange) (k : ℕ)
-    → Left (ending_of (result_after order other list_size group_size table k)) → session_fault order other list_size group_size ≡ None
+    → Left (ending_of (result_after order other list_size group_size table k)) → session_fault order other list_size group_size ≡ no_fault
 unfolding ending_of
 left-none order other list_size group_size table k f = go (session_fault order other list_size group_size) refl
   where
-    go : (x : Fault) → session_fault order other list_size group_size ≡ x → session_fault order other list_size group_size ≡ None
-    go None p = p
-    go (At number place) p =
-        absurd (f number place (ap ending_of (met-refused order other list_size group_size table k p)))
+    go : (x : Fault) → session_fault order other list_size group_size ≡ x → session_fault order other list_size group_size ≡ no_fault
+    go no_fault p = p
+    go (Err r) p =
+        absurd (f r.number r.place (ap ending_of (met-refused order other list_size group_size table k p)))
 
 -- .. and has a group
-left-table : (order other : Order) (list_size group_size : ℕ) → session_fault order other list_size group_size ≡ None
+left-table : (order other : Order) (list_size group_size : ℕ) → session_fault order other list_size group_size ≡ no_fault
     → IsTable order.n (exchanges_of order) (table_of order group_size)
 left-table order other list_size group_size e =
     let s = fault-none order other list_size group_size e in
@@ -49,8 +48,8 @@ left-table order other list_size group_size e =
     (order-symmetric order group_size P.cells_pass P.tests_pass).is_table
 
 -- the exchanges of both
-same-exchanges : (first second : Order) (list_size : ℕ) → shared_fault first second list_size ≡ None
-    → difference_fault first second ≡ None → exchanges_of first ≡ exchanges_of second
+same-exchanges : (first second : Order) (list_size : ℕ) → shared_fault first second list_size ≡ no_fault
+    → difference_fault first second ≡ no_fault → exchanges_of first ≡ exchanges_of second
 unfolding exchanges_of difference_fault
 same-exchanges first second list_size e f =
     ap₂ rows_of (shared-none first second list_size e).cells
@@ -69,7 +68,7 @@ module _ (first second : Order) (list_size group_size : ℕ) (steps : List ℕ) 
   abbrev R₁ : Result
   R₁ = result₁ first second list_size group_size steps
 
-  table_kept : shared_fault first second list_size ≡ None → difference_fault first second ≡ None
+  table_kept : shared_fault first second list_size ≡ no_fault → difference_fault first second ≡ no_fault
       → IsTable first.n (exchanges_of first) table → (is_refused R₀ && is_refused R₁) ≡ false
       → TableKept first second list_size group_size end.group
   unfolding session_end
@@ -94,7 +93,7 @@ module _ (first second : Order) (list_size group_size : ℕ) (steps : List ℕ) 
       let open₁ : Left (ending_of R₁) = λ m p e. f m p (answer₁ first second list_size group_size steps ∙ e) in
       let e = left-none second first list_size group_size table (steps_of 1 steps) open₁ in
       let s = fault-none second first list_size group_size e in
-      let shared : shared_fault first second list_size ≡ None = shared_same first second list_size ∙ s.0 in
+      let shared : shared_fault first second list_size ≡ no_fault = shared_same first second list_size ∙ s.0 in
       let same = difference-same second first s.1 in
       table_kept shared same (moved shared same (left-table second first list_size group_size e))
       (ap (λ (x : Bool). is_refused R₀ && x) (not-refused R₁ open₁) ∙ and-false (is_refused R₀))
@@ -103,14 +102,14 @@ module _ (first second : Order) (list_size group_size : ℕ) (steps : List ℕ) 
       and-false true = refl
       and-false false = refl
 
-      moved : shared_fault first second list_size ≡ None → difference_fault first second ≡ None
+      moved : shared_fault first second list_size ≡ no_fault → difference_fault first second ≡ no_fault
           → IsTable second.n (exchanges_of second) (table_of second group_size) → IsTable first.n (exchanges_of first) table
       moved e f t =
           subst (λ (n : ℕ). IsTable n (exchanges_of first) table) (sym (shared-none first second list_size e).cells)
           (subst (λ (x : List Exchange). IsTable second.n x table) (sym (same-exchanges first second list_size e f))
           (subst (IsTable second.n (exchanges_of second)) (sym (tables_agree first second list_size group_size e f)) t))
 
-  both_zero : (m p m' p' : ℕ) → end.first ≡ Refused m p → end.second ≡ Refused m' p'
+  both_zero : (m p m' p' : ℕ) → end.first ≡ refused m p → end.second ≡ refused m' p'
       → (end.list ≡ replicate list_size (pos 0)) × (end.group ≡ replicate group_size 0)
   unfolding session_end is_refused
   both_zero m p m' p' e f = (

@@ -1,4 +1,9 @@
 -- WHAT AN ORDER MAY CONCLUDE, of either part of a session. Assumes nothing.
+use Rattle.std.specs.declared.result.Result.TheVariants.{Err}
+use Rattle.definitions.specs.Refusals.{Fault, no_fault, fault_at}
+use Rattle.definitions.specs.declared.Answer.{Answer}
+use Rattle.definitions.specs.declared.Ending.{Ending}
+use Rattle.theory.proofs.Faults.{number_of, place_of}
 use mathlib.Core.Path.{◌≡◌, refl, sym, ◌∙◌, ap, ap₂, subst}
 use mathlib.Core.Bool.{Bool, true, false, cond}
 use mathlib.Core.List.{List, []}
@@ -7,9 +12,7 @@ use native.Mathlib.Omega.{arith}
 use lib.IntN.{ℤ, pos}
 use lib.ListN.{length, replicate, length-replicate}
 use Rattle.definitions.specs.declared.Answer.TheVariants as answers
-use Rattle.definitions.specs.declared.Ending.TheVariants.{Moves, Unfinished, Refused}
-use Rattle.definitions.specs.declared.Fault.{Fault}
-use Rattle.definitions.specs.declared.Fault.TheVariants.{None, At}
+use Rattle.definitions.specs.declared.Ending.TheVariants.{Moves, Unfinished}
 use Rattle.definitions.specs.Limits.{session_rows}
 use Rattle.definitions.specs.Group.{Exchange}
 use Rattle.definitions.specs.Completion.{Completion, is_finished, is_over, running, stopped, sum_count}
@@ -27,10 +30,10 @@ use Rattle.session_theory.proofs.Own.{after, early-end, enough-steps, met-refuse
 use Rattle.session_theory.proofs.Own.{unfinished-sums}
 
 -- ---- results and answers
-answer-ended : {X : Type 0} (o : Outcome Listing) {sums : ℕ} → ending_of (ended o) ≡ Unfinished sums → X
+answer-ended : {X : Type 0} (o : Outcome Listing) {sums : ℕ} → ending_of (ended o) ≡ accepted (Unfinished sums) → X
 unfolding ending_of
 answer-ended (accepted found) e = let z : ◌≡◌ {A = ℕ} 0 1 = cc in absurd (omega (arith, z))
-answer-ended (refused number place) e = let z : ◌≡◌ {A = ℕ} 0 1 = cc in absurd (omega (arith, z))
+answer-ended (Err r) e = let z : ◌≡◌ {A = ℕ} 0 1 = cc in absurd (omega (arith, z))
 
 -- an answer other than Unfinished comes from an end
 not_left : (table : List Exchange) (c : Completion) → Over (ending_of (result_of table c)) → is_over c ≡ true
@@ -47,22 +50,22 @@ over-left : (table : List Exchange) (c : Completion) → is_over c ≡ true → 
 over-left table c e sums f = answer-ended (listing_of table c) (sym (ap ending_of (result-over table c e)) ∙ f)
 
 -- which result an answer comes from
-unfinished-of : (result : Result) (sums : ℕ) → ending_of result ≡ Unfinished sums → result ≡ unfinished sums
+unfinished-of : (result : Result) (sums : ℕ) → ending_of result ≡ accepted (Unfinished sums) → result ≡ unfinished sums
 unfolding ending_of
 unfinished-of (ended o) sums e = answer-ended o e
 unfinished-of (unfinished tried) sums e = let z : tried ≡ sums = cc in ap unfinished z
 
-pub refused-of : (result : Result) (number place : ℕ) → ending_of result ≡ Refused number place
+pub refused-of : (result : Result) (number place : ℕ) → ending_of result ≡ refused number place
     → result ≡ ended (refused number place)
 unfolding ending_of
 refused-of (ended (accepted found)) number place e = let z : ◌≡◌ {A = ℕ} 0 1 = cc in absurd (omega (arith, z))
-refused-of (ended (refused m p)) number place e =
-    let y : m ≡ number = cc in
-    let z : p ≡ place = cc in
+refused-of (ended (Err r)) number place e =
+    let y : r.number ≡ number = cc in
+    let z : r.place ≡ place = cc in
     ap₂ (λ (a b : ℕ). ended (refused a b)) y z
 refused-of (unfinished tried) number place e = let z : ◌≡◌ {A = ℕ} 0 1 = cc in absurd (omega (arith, z))
 
-moves-over : {rows members stored sums : ℕ} → Over (Moves rows members stored sums)
+moves-over : {rows members stored sums : ℕ} → Over (accepted (Moves rows members stored sums))
 moves-over k e = let z : ◌≡◌ {A = ℕ} 0 1 = cc in omega (arith, z)
 
 -- ---- halves
@@ -96,36 +99,37 @@ module _ (order : Order) (group_size : ℕ) where
   held (accepted found) e =
       ap (λ (x : Outcome Listing). half_of order.n (ended x)) e
       ∙ sym (ap (λ (x : Outcome Listing). (list_end order.n (half order.n) group_size x).list) e)
-  held (refused number place) e =
+  held (Err r) e =
       ap (λ (x : Outcome Listing). half_of order.n (ended x)) e
       ∙ sym (ap (λ (x : Outcome Listing). (list_end order.n (half order.n) group_size x).list) e)
 
   own-moves : (o : Outcome Listing) → found-by ≡ o → (r g k s : ℕ)
-      → (list_call order (half order.n) group_size).answer ≡ answers.Moves r g k s → ending_of (ended found-by) ≡ Moves r g k s
+      → (list_call order (half order.n) group_size).answer ≡ accepted (answers.Moves r g k s) → ending_of (ended found-by) ≡ accepted (Moves r g k s)
   unfolding list_end ending_of
   own-moves (accepted found) e r g k s h =
       ap (λ (x : Outcome Listing). ending_of (ended x)) e ∙ counted (sym (answered e) ∙ h)
     where
-      counted : answers.Moves (length found.rows) (length found.table) found.stored found.sums ≡ answers.Moves r g k s
-          → Moves (length found.rows) (length found.table) found.stored found.sums ≡ Moves r g k s
+      counted : (accepted (answers.Moves (length found.rows) (length found.table) found.stored found.sums)) ≡ accepted (answers.Moves r g k s)
+          → (accepted (Moves (length found.rows) (length found.table) found.stored found.sums)) ≡ accepted (Moves r g k s)
       counted h = cc
-  own-moves (refused number place) e r g k s h =
+  own-moves (Err q) e r g k s h =
       let f = sym (answered e) ∙ h in
       let z : ◌≡◌ {A = ℕ} 0 1 = cc in
       absurd (omega (arith, z))
 
   own-told : (o : Outcome Listing) → found-by ≡ o → (number place : ℕ)
-      → (list_call order (half order.n) group_size).answer ≡ answers.Refused number place
-      → ending_of (ended found-by) ≡ Refused number place
+      → (list_call order (half order.n) group_size).answer ≡ refused number place
+      → ending_of (ended found-by) ≡ refused number place
   unfolding list_end ending_of
   own-told (accepted found) e number place h =
       let f = sym (answered e) ∙ h in
       let z : ◌≡◌ {A = ℕ} 0 1 = cc in
       absurd (omega (arith, z))
-  own-told (refused a b) e number place h = ap (λ (x : Outcome Listing). ending_of (ended x)) e ∙ told (sym (answered e) ∙ h)
+  own-told (Err r) e number place h = ap (λ (x : Outcome Listing). ending_of (ended x)) e ∙ told (sym (answered e) ∙ h)
     where
-      told : answers.Refused a b ≡ answers.Refused number place → Refused a b ≡ Refused number place
-      told h = cc
+      told : ◌≡◌ {A = Outcome Answer} (refused r.number r.place) (refused number place)
+          → ◌≡◌ {A = Outcome Ending} (refused r.number r.place) (refused number place)
+      told h = ap₂ refused (ap number_of h) (ap place_of h)
 
   own-part : OwnEnd order group_size (part_with order.n (ended found-by))
   own-part = record { moves = own-moves found-by refl; refused = own-told found-by refl; rows = held found-by refl }
@@ -164,12 +168,12 @@ module _ (order : Order) (list_size group_size : ℕ) {other other' : Order} (h 
 
 -- A PART: what `part` gives an order beside any other
 pub record IsPart (order : Order) (list_size group_size count : ℕ) (part : Order → Part) : Type 0 where
-  pub left : (other : Order) → shared_fault order other list_size ≡ None
+  pub left : (other : Order) → shared_fault order other list_size ≡ no_fault
       → part other ≡ part_of order other list_size group_size count
   pub blank : List ℤ
   pub zeros : Blank blank
-  pub shut : (other : Order) (number place : ℕ) → shared_fault order other list_size ≡ At number place
-      → part other ≡ record { ending = Refused number place; rows = blank }
+  pub shut : (other : Order) (number place : ℕ) → shared_fault order other list_size ≡ fault_at number place
+      → part other ≡ record { ending = refused number place; rows = blank }
 
 module _ {order : Order} {list_size group_size count : ℕ} {part : Order → Part} (P : IsPart order list_size group_size count part) (other : Order) where
   abbrev result : Result
@@ -179,49 +183,49 @@ module _ {order : Order} {list_size group_size count : ℕ} {part : Order → Pa
   shared = shared_fault order other list_size
 
   -- a part that a shared test refused
-  shut-ending : {number place : ℕ} → shared ≡ At number place → (part other).ending ≡ Refused number place
+  shut-ending : {number place : ℕ} → shared ≡ fault_at number place → (part other).ending ≡ refused number place
   shut-ending {number} {place} e = ap (λ (p : Part). p.ending) (P.shut other number place e)
 
-  from-own : shared ≡ None → result ≡ ended (listing order (half order.n) group_size) → OwnEnd order group_size (part other)
+  from-own : shared ≡ no_fault → result ≡ ended (listing order (half order.n) group_size) → OwnEnd order group_size (part other)
   from-own e r =
       subst (OwnEnd order group_size) (sym (P.left other e ∙ ap (part_with order.n) r)) (own-part order group_size)
 
-  own : shared ≡ None → difference_fault order other ≡ None → Over (part other).ending → OwnEnd order group_size (part other)
+  own : shared ≡ no_fault → difference_fault order other ≡ no_fault → Over (part other).ending → OwnEnd order group_size (part other)
   own e d f =
       from-own e
       (own-end order other list_size group_size e d count
       (not_left (table_of order group_size) (after order other list_size group_size (table_of order group_size) count)
       (λ sums q. f sums (ap (λ (p : Part). p.ending) (P.left other e) ∙ q))))
 
-  early : (number place : ℕ) → shared ≡ None → own_fault order group_size ≡ At number place → OwnEnd order group_size (part other)
+  early : (number place : ℕ) → shared ≡ no_fault → own_fault order group_size ≡ fault_at number place → OwnEnd order group_size (part other)
   early number place e d = from-own e (early-end order other list_size group_size e d count)
 
-  ending-is : shared ≡ None → (part other).ending ≡ ending_of result
+  ending-is : shared ≡ no_fault → (part other).ending ≡ ending_of result
   ending-is e = ap (λ (p : Part). p.ending) (P.left other e)
 
-  rows_are : shared ≡ None → (part other).rows ≡ half_of order.n result
+  rows_are : shared ≡ no_fault → (part other).rows ≡ half_of order.n result
   rows_are e = ap (λ (p : Part). p.rows) (P.left other e)
 
   -- an order that is not refused meets no test
-  unmet : shared ≡ None → ((number place : ℕ) → ¬ ((part other).ending ≡ Refused number place))
-      → session_fault order other list_size group_size ≡ None
+  unmet : shared ≡ no_fault → ((number place : ℕ) → ¬ ((part other).ending ≡ refused number place))
+      → session_fault order other list_size group_size ≡ no_fault
   unfolding ending_of
   unmet e f = go (session_fault order other list_size group_size) refl
     where
-      go : (x : Fault) → session_fault order other list_size group_size ≡ x → session_fault order other list_size group_size ≡ None
-      go None p = p
-      go (At number place) p =
+      go : (x : Fault) → session_fault order other list_size group_size ≡ x → session_fault order other list_size group_size ≡ no_fault
+      go no_fault p = p
+      go (Err refusal) p =
           let r = met-refused order other list_size group_size (table_of order group_size) count p in
-          absurd (f number place (ending-is e ∙ ap ending_of r))
+          absurd (f refusal.number refusal.place (ending-is e ∙ ap ending_of r))
 
-  accepts : (rows members stored sums : ℕ) → (part other).ending ≡ Moves rows members stored sums → PartAccepted order group_size (part other)
+  accepts : (rows members stored sums : ℕ) → (part other).ending ≡ accepted (Moves rows members stored sums) → PartAccepted order group_size (part other)
   unfolding ending_of half_of
   accepts rows members stored sums e = go shared refl
     where
-      other-than : {number place : ℕ} → (part other).ending ≡ Refused number place → ⊥
+      other-than : {number place : ℕ} → (part other).ending ≡ refused number place → ⊥
       other-than f = let z : ◌≡◌ {A = ℕ} 0 1 = cc in omega (arith, z)
 
-      taken : shared ≡ None → (o : Outcome Listing) → listing order (half order.n) group_size ≡ o → result ≡ ended o
+      taken : shared ≡ no_fault → (o : Outcome Listing) → listing order (half order.n) group_size ≡ o → result ≡ ended o
           → PartAccepted order group_size (part other)
       taken p (accepted found) l r = record {
         found = found;
@@ -230,34 +234,34 @@ module _ {order : Order} {list_size group_size count : ℕ} {part : Order → Pa
         says = ending-is p ∙ ap ending_of r;
         holds = rows_are p ∙ ap (half_of order.n) r;
       }
-      taken p (refused number place) l r = absurd (other-than (ending-is p ∙ ap ending_of r))
+      taken p (Err q) l r = absurd (other-than (ending-is p ∙ ap ending_of r))
 
       go : (x : Fault) → shared ≡ x → PartAccepted order group_size (part other)
-      go (At number place) p = absurd (other-than (shut-ending p))
-      go None p =
+      go (Err r) p = absurd (other-than (shut-ending p))
+      go no_fault p =
           let d = (fault-none order other list_size group_size (unmet p (λ m q f. other-than f))).1 in
           let over = not_left (table_of order group_size) (after order other list_size group_size (table_of order group_size) count)
           (λ k f. moves-over k (sym e ∙ ending-is p ∙ f)) in
           taken p (listing order (half order.n) group_size) refl (own-end order other list_size group_size p d count over)
 
-  refuses : (number place : ℕ) → (part other).ending ≡ Refused number place → Blank (part other).rows
+  refuses : (number place : ℕ) → (part other).ending ≡ refused number place → Blank (part other).rows
   refuses number place e = go shared refl
     where
       go : (x : Fault) → shared ≡ x → Blank (part other).rows
-      go (At m q) p = subst (λ (x : Part). Blank x.rows) (sym (P.shut other m q p)) P.zeros
-      go None p =
+      go (Err r) p = subst (λ (x : Part). Blank x.rows) (sym (P.shut other r.number r.place p)) P.zeros
+      go no_fault p =
           subst Blank (sym (rows_are p ∙ ap (half_of order.n) (refused-of result number place (sym (ending-is p) ∙ e))))
           (refused-half order.n number place)
 
-  leaves : (sums : ℕ) → (part other).ending ≡ Unfinished sums → (sums ≡ count) × Blank (part other).rows
+  leaves : (sums : ℕ) → (part other).ending ≡ accepted (Unfinished sums) → (sums ≡ count) × Blank (part other).rows
   leaves sums e = go shared refl
     where
       go : (x : Fault) → shared ≡ x → (sums ≡ count) × Blank (part other).rows
-      go (At m q) p =
+      go (Err r) p =
           let f = shut-ending p in
           let z : ◌≡◌ {A = ℕ} 0 1 = cc in
           absurd (omega (arith, z))
-      go None p =
+      go no_fault p =
           let r = unfinished-of result sums (sym (ending-is p) ∙ e) in (
             unfinished-sums order other list_size group_size (table_of order group_size) count sums r,
             subst Blank (sym (rows_are p ∙ ap (half_of order.n) r)) (unfinished-half order.n sums),
@@ -267,8 +271,8 @@ module _ {order : Order} {list_size group_size count : ℕ} {part : Order → Pa
   finishes h sums e = go shared refl
     where
       go : (x : Fault) → shared ≡ x → ⊥
-      go (At m q) p = let f = shut-ending p in let z : ◌≡◌ {A = ℕ} 0 1 = cc in omega (arith, z)
-      go None p =
+      go (Err r) p = let f = shut-ending p in let z : ◌≡◌ {A = ℕ} 0 1 = cc in omega (arith, z)
+      go no_fault p =
           over-left (table_of order group_size) (after order other list_size group_size (table_of order group_size) count)
           (enough-steps order other list_size group_size count h) sums (sym (ending-is p) ∙ e)
 
@@ -285,8 +289,8 @@ module _ {order : Order} {list_size group_size count : ℕ} {part : Order → Pa
           (same-fault order list_size group_size h)
 
       go : (x : Fault) → shared ≡ x → part other' ≡ part other
-      go (At m q) p = P.shut other' m q (sym (same-shared order list_size group_size h) ∙ p) ∙ sym (P.shut other m q p)
-      go None p = P.left other' (sym (same-shared order list_size group_size h) ∙ p) ∙ sym (P.left other p ∙ parts)
+      go (Err r) p = P.shut other' r.number r.place (sym (same-shared order list_size group_size h) ∙ p) ∙ sym (P.shut other r.number r.place p)
+      go no_fault p = P.left other' (sym (same-shared order list_size group_size h) ∙ p) ∙ sym (P.left other p ∙ parts)
 
   pub part-kept : PartKept order other list_size group_size count part
   part-kept = record {

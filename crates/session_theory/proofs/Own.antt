@@ -1,5 +1,7 @@
 -- AN ORDER'S END IS ITS OWN: but for the shared 5 and 6 and a differing exchange, once its last sum is tried, an order has
 -- come to what a List on its own with 64 rows finds. Assumes nothing.
+use Rattle.std.specs.declared.result.Result.TheVariants.{Err}
+use Rattle.definitions.specs.Refusals.{Fault, no_fault, fault_at}
 use mathlib.Core.Path.{◌≡◌, refl, sym, ◌∙◌, ap, subst}
 use mathlib.Core.Bool.{Bool, true, false, cond}
 use mathlib.Core.List.{List}
@@ -8,8 +10,6 @@ use native.Mathlib.Nat.{mul-div_cancel_left, mul-mod_right}
 use native.Mathlib.Omega.{arith}
 use borrow.Author.Tests.{eq-eqb}
 use lib.ListN.{length}
-use Rattle.definitions.specs.declared.Fault.{Fault}
-use Rattle.definitions.specs.declared.Fault.TheVariants.{None, At}
 use Rattle.definitions.specs.Limits.{session_rows}
 use Rattle.definitions.specs.Vector.{Vector}
 use Rattle.definitions.specs.Group.{Exchange}
@@ -92,7 +92,7 @@ module _ (order other : Order) (list_size group_size : ℕ) where
   started-met table e = ap (λ (f : Fault). unless_met f (begun table session_rows (generators_of order))) e
 
   -- an order that meets a test is refused by it, whatever the steps
-  pub met-refused : (table : List Exchange) (k : ℕ) {number place : ℕ} → fault ≡ At number place
+  pub met-refused : (table : List Exchange) (k : ℕ) {number place : ℕ} → fault ≡ fault_at number place
       → result_after table k ≡ ended (refused number place)
   unfolding unless_met is_over result_of
   met-refused table k {number} {place} e =
@@ -100,7 +100,7 @@ module _ (order other : Order) (list_size group_size : ℕ) where
       ∙ ap (result_of table) (steps-over table session_rows k (stopped number place) refl)
 
   -- one that meets none is at its start
-  unmet-begun : (table : List Exchange) → fault ≡ None → started table fault order ≡ begun table session_rows (generators_of order)
+  unmet-begun : (table : List Exchange) → fault ≡ no_fault → started table fault order ≡ begun table session_rows (generators_of order)
   unfolding unless_met
   unmet-begun table e = started-met table e
 
@@ -114,18 +114,18 @@ module _ (order other : Order) (list_size group_size : ℕ) where
       ∙ ap (λ (f : Fault). unless_fault f found) e
 
   -- a test that it meets too
-  pub own-refused : (k : ℕ) {number place : ℕ} → fault ≡ At number place
-      → admission_fault order group_size true ≡ At number place → result_after members k ≡ ended own
+  pub own-refused : (k : ℕ) {number place : ℕ} → fault ≡ fault_at number place
+      → admission_fault order group_size true ≡ fault_at number place → result_after members k ≡ ended own
   unfolding unless_fault
   own-refused k e p = met-refused members k e ∙ ap ended (sym (listing-met p))
 
   -- none: the group has members, and the completion is the same
-  own-some : admission_fault order group_size true ≡ None → 0 < length members
+  own-some : admission_fault order group_size true ≡ no_fault → 0 < length members
   own-some e =
       let P = admission-none order group_size true e in
       table-some order group_size P.cells_pass P.tests_pass
 
-  own-found : admission_fault order group_size true ≡ None → (k : ℕ)
+  own-found : admission_fault order group_size true ≡ no_fault → (k : ℕ)
       → is_over (steps members session_rows k (begun members session_rows (generators_of order))) ≡ true
       → ended (listing_of members (steps members session_rows k (begun members session_rows (generators_of order)))) ≡ ended own
   unfolding unless_fault
@@ -136,7 +136,7 @@ module _ (order other : Order) (list_size group_size : ℕ) where
       ∙ ap ended (sym (listing-met e))
 
   -- AN ORDER'S END IS ITS OWN
-  pub own-end : shared_fault order other list_size ≡ None → difference_fault order other ≡ None → (k : ℕ)
+  pub own-end : shared_fault order other list_size ≡ no_fault → difference_fault order other ≡ no_fault → (k : ℕ)
       → is_over (after members k) ≡ true → result_after members k ≡ ended own
   own-end e f k over = go (admission_fault order group_size true) refl
     where
@@ -144,15 +144,15 @@ module _ (order other : Order) (list_size group_size : ℕ) where
       same = own-tests order other list_size group_size e f
 
       go : (x : Fault) → admission_fault order group_size true ≡ x → result_after members k ≡ ended own
-      go (At number place) p = own-refused k (same ∙ p) p
-      go None p =
+      go (Err r) p = own-refused k (same ∙ p) p
+      go no_fault p =
           let begins = unmet-begun members (same ∙ p) in
           result-over members (after members k) over
           ∙ ap (λ (c : Completion). ended (listing_of members (steps members session_rows k c))) begins
           ∙ own-found p k (subst (λ (c : Completion). is_over (steps members session_rows k c) ≡ true) begins over)
 
   -- with a fault of its own up to 9 too
-  pub early-end : {number place : ℕ} → shared_fault order other list_size ≡ None → own_fault order group_size ≡ At number place
+  pub early-end : {number place : ℕ} → shared_fault order other list_size ≡ no_fault → own_fault order group_size ≡ fault_at number place
       → (k : ℕ) → result_after members k ≡ ended own
   early-end e f k = let both = fault-early order other list_size group_size e f in own-refused k both.0 both.1
 
@@ -165,10 +165,10 @@ module _ (order other : Order) (list_size group_size : ℕ) where
       parts h = omega arith
 
       go : (x : Fault) → fault ≡ x → is_over (after members k) ≡ true
-      go (At number place) p =
+      go (Err r) p =
           ap (λ (c : Completion). is_over (steps members session_rows k c)) (started-met members p)
-          ∙ ap is_over (steps-over members session_rows k (stopped number place) refl)
-      go None p =
+          ∙ ap is_over (steps-over members session_rows k (stopped r.number r.place) refl)
+      go no_fault p =
           let s = fault-none order other list_size group_size p in
           let some = own-some (sym (own-tests order other list_size group_size s.0 s.1) ∙ p) in
           let generators = generators_of order in
@@ -186,8 +186,8 @@ module _ (order other : Order) (list_size group_size : ℕ) where
       none_more k = omega arith
 
       go : (x : Fault) → fault ≡ x → sums ≡ k
-      go (At number place) p = ended-unfinished (sym (met-refused table k p) ∙ e)
-      go None p =
+      go (Err r) p = ended-unfinished (sym (met-refused table k p) ∙ e)
+      go no_fault p =
           let tries = steps-tries table session_rows k 0 (started table fault order)
           (subst (Tries table session_rows 0) (sym (unmet-begun table p)) (begun-tries table session_rows (generators_of order))) in
           left-sums table k (after table k) (subst (λ (m : ℕ). Tries table session_rows m (after table k)) (none_more k) tries) sums e
@@ -198,5 +198,5 @@ module _ (order other : Order) (list_size group_size : ℕ) where
   after-fits table k = steps-fit table session_rows k (started table fault order) (go fault refl)
     where
       go : (x : Fault) → fault ≡ x → Fits table session_rows (started table fault order)
-      go (At number place) p = subst (Fits table session_rows) (sym (started-met table p)) tt
-      go None p = subst (Fits table session_rows) (sym (unmet-begun table p)) (begun-fits table session_rows (generators_of order))
+      go (Err r) p = subst (Fits table session_rows) (sym (started-met table p)) tt
+      go no_fault p = subst (Fits table session_rows) (sym (unmet-begun table p)) (begun-fits table session_rows (generators_of order))

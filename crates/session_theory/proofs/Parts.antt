@@ -1,4 +1,7 @@
 -- BOTH PARTS OF A SESSION, and what its areas hold. Assumes nothing.
+use Rattle.definitions.specs.Refusals.{Outcome}
+use Rattle.std.specs.declared.result.Result.TheVariants.{Err}
+use Rattle.definitions.specs.Refusals.{Fault, no_fault, fault_at}
 use mathlib.Core.Path.{◌≡◌, refl, sym, ◌∙◌, ap, ap₂}
 use mathlib.Core.Bool.{Bool, true, false, cond}
 use mathlib.Core.List.{List, [], ◌∷◌, ◌++◌, map}
@@ -9,8 +12,6 @@ use lib.IntN.{ℤ, pos}
 use lib.ListN.{length, take, drop, replicate, length-append, length-take, replicate-append-replicate}
 use lib.Seq.{take_at, drop_at}
 use Rattle.definitions.specs.declared.Ending.{Ending}
-use Rattle.definitions.specs.declared.Fault.{Fault}
-use Rattle.definitions.specs.declared.Fault.TheVariants.{None, At}
 use Rattle.definitions.specs.Limits.{session_rows}
 use Rattle.definitions.specs.Lists.{concat}
 use Rattle.definitions.specs.Vector.{Vector}
@@ -68,9 +69,9 @@ pub two-halves : (n list_size group_size : ℕ) (table : List Exchange) (a b : R
 unfolding session_end is_refused half_of
 two-halves n list_size group_size table (ended (accepted found)) b e = refl
 two-halves n list_size group_size table (unfinished sums) b e = refl
-two-halves n list_size group_size table (ended (refused number place)) (ended (accepted found)) e = refl
-two-halves n list_size group_size table (ended (refused number place)) (unfinished sums) e = refl
-two-halves n list_size group_size table (ended (refused number place)) (ended (refused m p)) e =
+two-halves n list_size group_size table (ended (Err r)) (ended (accepted found)) e = refl
+two-halves n list_size group_size table (ended (Err r)) (unfinished sums) e = refl
+two-halves n list_size group_size table (ended (Err r)) (ended (Err q)) e =
     ap (λ (k : ℕ). filled (pos 0) k []) e ∙ two-zeros n
 
 -- ---- A SESSION
@@ -109,7 +110,7 @@ module _ (first second : Order) (list_size group_size : ℕ) (steps : List ℕ) 
   unfolding session_end
   answer₁ = ap (λ (e : SessionEnd). e.second) session-is
 
-  module _ (shared : shared_fault first second list_size ≡ None) where
+  module _ (shared : shared_fault first second list_size ≡ no_fault) where
     list-is : end.list ≡ half_of first.n result₀ ++ half_of first.n result₁
     list-is =
         ap (λ (e : SessionEnd). e.list) session-is
@@ -130,7 +131,7 @@ module _ (first second : Order) (list_size group_size : ℕ) (steps : List ℕ) 
         ∙ drop_at (half_of first.n result₀) (half_of first.n result₁) (half first.n) long
 
   -- a shared test refuses both, and everything is zero
-  module _ {number place : ℕ} (shared : shared_fault first second list_size ≡ At number place) where
+  module _ {number place : ℕ} (shared : shared_fault first second list_size ≡ fault_at number place) where
     met₀ : result₀ ≡ ended (refused number place)
     met₀ =
         met-refused first second list_size group_size table (steps_of 0 steps) (fault-shared first second list_size group_size shared)
@@ -159,7 +160,7 @@ drop-blank (suc k) zero = refl
 drop-blank (suc k) (suc m) = drop-blank k m
 
 -- where both are known
-pub part-is : {ending ending' : Ending} {rows rows' : List ℤ} → ending ≡ ending' → rows ≡ rows'
+pub part-is : {ending ending' : Outcome Ending} {rows rows' : List ℤ} → ending ≡ ending' → rows ≡ rows'
     → ◌≡◌ {A = Part} (record { ending = ending; rows = rows }) (record { ending = ending'; rows = rows' })
 part-is p q = (λ i. record { ending = p i; rows = q i })
 
@@ -186,15 +187,15 @@ module _ (order : Order) (list_size group_size : ℕ) (steps : List ℕ) (other 
       go : (x : Fault) → session_fault order other list_size group_size ≡ x
           → result₁ other order list_size group_size steps
           ≡ result_after order other list_size group_size (table_of order group_size) (steps_of 1 steps)
-      go (At number place) e =
+      go (Err r) e =
           met-refused order other list_size group_size (table_of other group_size) (steps_of 1 steps) e
           ∙ sym (met-refused order other list_size group_size (table_of order group_size) (steps_of 1 steps) e)
-      go None e =
+      go no_fault e =
           let s = fault-none order other list_size group_size e in
           ap (λ (t : List Exchange). result_after order other list_size group_size t (steps_of 1 steps))
           (sym (tables_agree order other list_size group_size s.0 s.1))
 
-  second-left : shared_fault order other list_size ≡ None
+  second-left : shared_fault order other list_size ≡ no_fault
       → second_part order other list_size group_size steps ≡ part_of order other list_size group_size (steps_of 1 steps)
   unfolding second_part
   second-left e =

@@ -1,4 +1,5 @@
 -- The first difference of two sequences, place by place; and a list area of two halves. Assumes nothing.
+use Rattle.definitions.specs.Refusals.{no_fault, fault_at}
 use mathlib.Core.Path.{◌≡◌, refl, sym, ◌∙◌, ap, ap₂}
 use mathlib.Core.Bool.{Bool, true, false, cond, ◌&&◌}
 use mathlib.Core.List.{List, [], ◌∷◌}
@@ -10,7 +11,6 @@ use borrow.Author.Tests.{eq-eqb, eqb-false, eqb-true, ne_eqb}
 use lib.Dec.{eqb}
 use lib.ListN.{length, get_or, drop, length-drop}
 use lib.Seq.{drop-cons}
-use Rattle.definitions.specs.declared.Fault.TheVariants.{None, At}
 use Rattle.definitions.specs.Session.{difference_from, half}
 
 -- a list of no elements
@@ -23,26 +23,26 @@ gone xs p h = nothing (drop p xs) (omega (arith, length-drop p xs))
 
 module _ (n p : ℕ) (xs ys : List ℕ) where
   -- the second is at its end
-  pub differ-short : p < length xs → length ys ≤ p → difference_from n p (drop p xs) (drop p ys) ≡ At 9 (p / n)
+  pub differ-short : p < length xs → length ys ≤ p → difference_from n p (drop p xs) (drop p ys) ≡ fault_at 9 (p / n)
   unfolding difference_from
   differ-short h k = ap₂ (difference_from n p) (drop-cons xs p 0 h) (gone ys p k)
 
   -- the first is
-  pub differ-long : length xs ≤ p → p < length ys → difference_from n p (drop p xs) (drop p ys) ≡ At 9 (p / n)
+  pub differ-long : length xs ≤ p → p < length ys → difference_from n p (drop p xs) (drop p ys) ≡ fault_at 9 (p / n)
   unfolding difference_from
   differ-long h k = ap₂ (difference_from n p) (gone xs p h) (drop-cons ys p 0 k)
 
   -- both are
-  pub differ-end : length xs ≤ p → length ys ≤ p → difference_from n p (drop p xs) (drop p ys) ≡ None
+  pub differ-end : length xs ≤ p → length ys ≤ p → difference_from n p (drop p xs) (drop p ys) ≡ no_fault
   unfolding difference_from
   differ-end h k = ap₂ (difference_from n p) (gone xs p h) (gone ys p k)
 
   module _ (h : p < length xs) (k : p < length ys) where
-    pub differ-here : (get_or xs p 0 ≡ get_or ys p 0 → ⊥) → difference_from n p (drop p xs) (drop p ys) ≡ At 9 (p / n)
+    pub differ-here : (get_or xs p 0 ≡ get_or ys p 0 → ⊥) → difference_from n p (drop p xs) (drop p ys) ≡ fault_at 9 (p / n)
     unfolding difference_from
     differ-here e =
         ap₂ (difference_from n p) (drop-cons xs p 0 h) (drop-cons ys p 0 k)
-        ∙ ap (λ (b : Bool). cond b (difference_from n (suc p) (drop (suc p) xs) (drop (suc p) ys)) (At 9 (p / n)))
+        ∙ ap (λ (b : Bool). cond b (difference_from n (suc p) (drop (suc p) xs) (drop (suc p) ys)) (fault_at 9 (p / n)))
         (ne_eqb (get_or xs p 0) (get_or ys p 0) e)
 
     pub differ-next : get_or xs p 0 ≡ get_or ys p 0
@@ -50,7 +50,7 @@ module _ (n p : ℕ) (xs ys : List ℕ) where
     unfolding difference_from
     differ-next e =
         ap (λ (m : ℕ). difference_from n m (drop m xs) (drop m ys)) (add-one p)
-        ∙ sym (ap (λ (b : Bool). cond b (difference_from n (suc p) (drop (suc p) xs) (drop (suc p) ys)) (At 9 (p / n)))
+        ∙ sym (ap (λ (b : Bool). cond b (difference_from n (suc p) (drop (suc p) xs) (drop (suc p) ys)) (fault_at 9 (p / n)))
         (eq-eqb (get_or xs p 0) (get_or ys p 0) e))
         ∙ sym (ap₂ (difference_from n p) (drop-cons xs p 0 h) (drop-cons ys p 0 k))
 

@@ -1,4 +1,7 @@
 -- How a session ends: what the tests and the orders find is the definition's, and the promise. Assumes nothing.
+use Rattle.std.specs.Prelude.{is_err}
+use Rattle.std.specs.declared.result.Result.TheVariants.{Err}
+use Rattle.definitions.specs.Refusals.{Fault, no_fault, fault_at}
 use mathlib.Core.Path.{◌≡◌, refl, sym, ◌∙◌, ap, ap₂, subst}
 use mathlib.Core.Logic.{◌⊎◌, inl, inr}
 use mathlib.Core.Bool.{Bool, true, false, cond, ◌&&◌}
@@ -6,9 +9,6 @@ use mathlib.Core.List.{List, [], ◌++◌}
 use Prim.Native.Nat.{ℕ, ◌+◌, ◌≤◌}
 use lib.IntN.{ℤ, pos}
 use lib.ListN.{length, take, drop}
-use Rattle.definitions.specs.declared.Ending.TheVariants.{Refused}
-use Rattle.definitions.specs.declared.Fault.{Fault}
-use Rattle.definitions.specs.declared.Fault.TheVariants.{None, At}
 use Rattle.definitions.specs.declared.Session.{Session}
 use Rattle.definitions.specs.Limits.{cells, session_rows}
 use Rattle.definitions.specs.Lists.{concat}
@@ -30,21 +30,21 @@ use Rattle.reduction.specs.Areas.{sequences_in}
 use Rattle.moves.specs.Found.{Grouped}
 use Rattle.moves.proofs.Tables.{held-grouped, held-table}
 use Rattle.sessions.specs.declared.Tests.{Tests}
-use Rattle.sessions.specs.Found.{Ends, Finds, any_left, ends_refused, result_by, shape_of}
+use Rattle.sessions.specs.Found.{Ends, Finds, any_left, result_by, shape_of}
 use Rattle.sessions.specs.Promise.{SessionPromise}
 use Rattle.sessions.proofs.Testing.{left-either}
 
 -- neither order is left
 pub left-none : (first second : Fault) → any_left first second ≡ false
-    → (m : ℕ) × (p : ℕ) × (m' : ℕ) × (p' : ℕ) × (first ≡ At m p) × (second ≡ At m' p')
-left-none None second e = clash refl e
-left-none (At m p) None e = clash refl e
-left-none (At m p) (At m' p') e = (m, p, m', p', refl, refl)
+    → (m : ℕ) × (p : ℕ) × (m' : ℕ) × (p' : ℕ) × (first ≡ fault_at m p) × (second ≡ fault_at m' p')
+left-none no_fault second e = clash refl e
+left-none (Err r) no_fault e = clash refl e
+left-none (Err r) (Err q) e = (r.number, r.place, q.number, q.place, refl, refl)
 
-refused-same : (result : Result) → ends_refused (ending_of result) ≡ is_refused result
+refused-same : (result : Result) → is_err (ending_of result) ≡ is_refused result
 unfolding ending_of is_refused
 refused-same (ended (accepted found)) = refl
-refused-same (ended (refused number place)) = refl
+refused-same (ended (Err r)) = refl
 refused-same (unfinished sums) = refl
 
 module _ (first second : Order) (list_size group_size : ℕ) (bytes : List ℕ) where
@@ -71,9 +71,9 @@ module _ (first second : Order) (list_size group_size : ℕ) (bytes : List ℕ) 
   }
 
   -- both are refused by tests
-  pub promise-shut : {m p m' p' : ℕ} → session_fault first second list_size group_size ≡ At m p
-      → session_fault second first list_size group_size ≡ At m' p' → {answer : Session} {list : List ℤ} {group : List ℕ}
-      → answer.first ≡ Refused m p → answer.second ≡ Refused m' p' → list ≡ filled (pos 0) list_size [] → group ≡ filled 0 group_size []
+  pub promise-shut : {m p m' p' : ℕ} → session_fault first second list_size group_size ≡ fault_at m p
+      → session_fault second first list_size group_size ≡ fault_at m' p' → {answer : Session} {list : List ℤ} {group : List ℕ}
+      → answer.first ≡ refused m p → answer.second ≡ refused m' p' → list ≡ filled (pos 0) list_size [] → group ≡ filled 0 group_size []
       → SessionPromise first second list_size group_size bytes answer list group
   unfolding session_end ending_of is_refused
   promise-shut {m} {p} {m'} {p'} e f a b l g =
@@ -91,19 +91,19 @@ module _ (first second : Order) (list_size group_size : ℕ) (bytes : List ℕ) 
   module _ {group : List ℕ} {tests : Tests} (F : Finds first second list_size group_size group tests)
       (left : any_left tests.first tests.second ≡ true) (long : length group ≡ group_size) where
     record Open : Type 0 where
-      shared : shared_fault first second list_size ≡ None
-      same : difference_fault first second ≡ None
+      shared : shared_fault first second list_size ≡ no_fault
+      same : difference_fault first second ≡ no_fault
       fits : first.n ≤ cells
       sequences : sequences_in (shape_of first.n tests) group ≡ table
 
     -- an order that meets no test is admitted
-    admitted : (order other : Order) → session_fault order other list_size group_size ≡ None → Admitted order group_size true
+    admitted : (order other : Order) → session_fault order other list_size group_size ≡ no_fault → Admitted order group_size true
     admitted order other e =
         let s = fault-none order other list_size group_size e in
         admission-none order group_size true (sym (own-tests order other list_size group_size s.0 s.1) ∙ e)
 
     -- the table in the area is its own
-    own_held : (order other : Order) → session_fault order other list_size group_size ≡ None → order.n ≡ first.n
+    own_held : (order other : Order) → session_fault order other list_size group_size ≡ no_fault → order.n ≡ first.n
         → table_of order group_size ≡ table → Grouped (shape_of first.n tests) order.generators group
         × (sequences_in (shape_of first.n tests) group ≡ table)
     own_held order other e n t =
@@ -115,11 +115,11 @@ module _ (first second : Order) (list_size group_size : ℕ) (bytes : List ℕ) 
           ap (λ (k : ℕ). sequences_in (shape_of k tests) group) (sym n) ∙ held-table A h long c ∙ t,
         )
 
-    first-held : tests.first ≡ None → Grouped (shape_of first.n tests) first.generators group
+    first-held : tests.first ≡ no_fault → Grouped (shape_of first.n tests) first.generators group
         × (sequences_in (shape_of first.n tests) group ≡ table)
     first-held e = own_held first second (sym F.first_met ∙ e) refl refl
 
-    second-held : tests.second ≡ None → Grouped (shape_of first.n tests) second.generators group
+    second-held : tests.second ≡ no_fault → Grouped (shape_of first.n tests) second.generators group
         × (sequences_in (shape_of first.n tests) group ≡ table)
     second-held e =
         let f = sym F.second_met ∙ e in
@@ -127,16 +127,16 @@ module _ (first second : Order) (list_size group_size : ℕ) (bytes : List ℕ) 
         own_held second first f (shared-none second first list_size s.0).cells
         (tables_agree second first list_size group_size s.0 s.1)
 
-    pub first-grouped : tests.first ≡ None → Grouped (shape_of first.n tests) first.generators group
+    pub first-grouped : tests.first ≡ no_fault → Grouped (shape_of first.n tests) first.generators group
     first-grouped e = (first-held e).0
 
-    pub second-grouped : tests.second ≡ None → Grouped (shape_of first.n tests) second.generators group
+    pub second-grouped : tests.second ≡ no_fault → Grouped (shape_of first.n tests) second.generators group
     second-grouped e = (second-held e).0
 
     opened : Open
     opened = go (left-either tests.first tests.second left)
       where
-        go : (tests.first ≡ None) ⊎ (tests.second ≡ None) → Open
+        go : (tests.first ≡ no_fault) ⊎ (tests.second ≡ no_fault) → Open
         go (inl e) =
             let s = fault-none first second list_size group_size (sym F.first_met ∙ e) in
             let G = first-held e in
@@ -204,11 +204,11 @@ module _ (first second : Order) (list_size group_size : ℕ) (bytes : List ℕ) 
           ∙ two-halves first.n list_size group_size table R₀ R₁ left-size)
 
       -- whether both are refused
-      both : (b : Bool) → (ends_refused answer.first && ends_refused answer.second) ≡ b → (is_refused R₀ && is_refused R₁) ≡ b
+      both : (b : Bool) → (is_err answer.first && is_err answer.second) ≡ b → (is_refused R₀ && is_refused R₁) ≡ b
       both b e =
-          sym (ap₂ ◌&&◌ (ap ends_refused first_ends ∙ refused-same R₀) (ap ends_refused second-ends ∙ refused-same R₁)) ∙ e
+          sym (ap₂ ◌&&◌ (ap is_err first_ends ∙ refused-same R₀) (ap is_err second-ends ∙ refused-same R₁)) ∙ e
 
-      ended-with : {group' : List ℕ} (b : Bool) → (ends_refused answer.first && ends_refused answer.second) ≡ b
+      ended-with : {group' : List ℕ} (b : Bool) → (is_err answer.first && is_err answer.second) ≡ b
           → group' ≡ filled 0 group_size (cond b [] (concat table))
           → SessionPromise first second list_size group_size bytes answer list group'
       unfolding session_end
@@ -220,11 +220,11 @@ module _ (first second : Order) (list_size group_size : ℕ) (bytes : List ℕ) 
           ∙ ap (λ (x : Bool). filled 0 group_size (cond x [] (concat table))) (both b e)))
 
       -- both were refused while they ran, and the group area was cleared
-      pub promise-refused : {group' : List ℕ} → (ends_refused answer.first && ends_refused answer.second) ≡ true
+      pub promise-refused : {group' : List ℕ} → (is_err answer.first && is_err answer.second) ≡ true
           → group' ≡ filled 0 group_size [] → SessionPromise first second list_size group_size bytes answer list group'
       promise-refused e g = ended-with true e g
 
       -- one is left
-      pub promise-left : (ends_refused answer.first && ends_refused answer.second) ≡ false
+      pub promise-left : (is_err answer.first && is_err answer.second) ≡ false
           → SessionPromise first second list_size group_size bytes answer list group
       promise-left e = ended-with false e (F.held left)

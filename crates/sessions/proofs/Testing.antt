@@ -1,4 +1,6 @@
 -- The tests of a session's orders, one after the other, and what holds of an order that is left. Assumes nothing.
+use Rattle.std.specs.declared.result.Result.TheVariants.{Err}
+use Rattle.definitions.specs.Refusals.{Fault, no_fault, fault_at}
 use mathlib.Core.Path.{◌≡◌, refl, sym, ◌∙◌, ap, ap₂, subst}
 use mathlib.Core.Logic.{◌⊎◌, inl, inr}
 use mathlib.Core.Bool.{Bool, true, not}
@@ -10,8 +12,6 @@ use borrow.Author.Tests.{eq-eqb, eqb-false, le-leb, lt-leb, ne_eqb}
 use lib.Dec.{eqb, leb}
 use lib.IntN.{ℤ}
 use lib.ListN.{length}
-use Rattle.definitions.specs.declared.Fault.{Fault}
-use Rattle.definitions.specs.declared.Fault.TheVariants.{None, At}
 use Rattle.definitions.specs.Lent.{Order, exchanges_of, group_rows, order_of, table_of}
 use Rattle.definitions.specs.Refusals.{cells_fault, fault_if, first_fault, lattice_fault, numbers_fault, size_fault, symmetry_fault}
 use Rattle.definitions.specs.Session.{difference_fault, own_fault, session_fault, shared_fault}
@@ -30,11 +30,11 @@ module _ (order other : Order) (list_size group_size : ℕ) where
   early_fault = first_fault (shared_fault order other list_size ∷ own_fault order group_size ∷ difference_fault order other ∷ [])
 
   record Early : Type 0 where
-    shared : shared_fault order other list_size ≡ None
+    shared : shared_fault order other list_size ≡ no_fault
     numbered : Numbered order
-    same : difference_fault order other ≡ None
+    same : difference_fault order other ≡ no_fault
 
-  early-none : early_fault ≡ None → Early
+  early-none : early_fault ≡ no_fault → Early
   unfolding own_fault
   early-none e =
       let a = tests-none (shared_fault order other list_size) _ e in
@@ -52,11 +52,11 @@ module _ (order other : Order) (list_size group_size : ℕ) where
       }
 
   -- its numbers are as they should be
-  pub early-numbered : early_fault ≡ None → Numbered order
+  pub early-numbered : early_fault ≡ no_fault → Numbered order
   early-numbered e = (early-none e).numbered
 
   -- so a group can be made of its exchanges
-  pub early-exchangeable : early_fault ≡ None → Exchangeable order.n order.exchanges
+  pub early-exchangeable : early_fault ≡ no_fault → Exchangeable order.n order.exchanges
   unfolding exchanges_of
   early-exchangeable e =
       let N = (early-none e).numbered in
@@ -64,7 +64,7 @@ module _ (order other : Order) (list_size group_size : ℕ) where
       record { some = S.least; narrow = S.most; valid = (numbers-none order N.numbers_pass).exchanges }
 
   -- .. or of the other's, which are the same
-  pub other-exchangeable : early_fault ≡ None → Exchangeable other.n other.exchanges
+  pub other-exchangeable : early_fault ≡ no_fault → Exchangeable other.n other.exchanges
   unfolding difference_fault
   other-exchangeable e =
       let E = early-none e in
@@ -73,16 +73,16 @@ module _ (order other : Order) (list_size group_size : ℕ) where
       (early-exchangeable e))
 
   -- one number of cells, and one table
-  pub early-cells : early_fault ≡ None → order.n ≡ other.n
+  pub early-cells : early_fault ≡ no_fault → order.n ≡ other.n
   early-cells e = (shared-none order other list_size (early-none e).shared).cells
 
-  pub early-tables : early_fault ≡ None → table_of order group_size ≡ table_of other group_size
+  pub early-tables : early_fault ≡ no_fault → table_of order group_size ≡ table_of other group_size
   early-tables e = let E = early-none e in tables_agree order other list_size group_size E.shared E.same
 
   -- ---- 10, and 11 or 23
   module _ (members : ℕ) where
     -- the number of members tells 10
-    pub late_is : (early_fault ≡ None → eqb members 0 ≡ not (leb (length (table_of order group_size)) (group_rows order.n group_size)))
+    pub late_is : (early_fault ≡ no_fault → eqb members 0 ≡ not (leb (length (table_of order group_size)) (group_rows order.n group_size)))
         → late_fault early_fault members (lattice_fault order) ≡ session_fault order other list_size group_size
     unfolding session_fault symmetry_fault
     late_is h = go early_fault refl
@@ -97,8 +97,8 @@ module _ (order other : Order) (list_size group_size : ℕ) where
         whole = sym (first-append (_ ∷ _ ∷ _ ∷ []) _)
 
         go : (x : Fault) → early_fault ≡ x → late_fault early_fault members lattice ≡ session_fault order other list_size group_size
-        go (At number place) e = sym (met-first number place _ e) ∙ met-first number place _ e ∙ whole
-        go None e =
+        go (Err r) e = sym (met-first r.number r.place _ e) ∙ met-first r.number r.place _ e ∙ whole
+        go no_fault e =
             ap (λ (b : Bool). first_fault (early_fault ∷ fault_if 10 b ∷ lattice ∷ [])) (h e)
             ∙ first-nested early_fault (fault_if 10 large ∷ lattice ∷ []) ∙ whole
 
@@ -125,20 +125,20 @@ ten-told {order} {size} {group} {members} T = go (dec_lt 0 members)
         eq-eqb members 0 z
         ∙ sym (ap not (lt-leb (length (table_of order size)) (group_rows order.n size) (T.large z)))
 
-left-first : {first : Fault} (second : Fault) → first ≡ None → any_left first second ≡ true
+left-first : {first : Fault} (second : Fault) → first ≡ no_fault → any_left first second ≡ true
 left-first second e = ap (λ (f : Fault). any_left f second) e
 
-left-second : (first : Fault) {second : Fault} → second ≡ None → any_left first second ≡ true
-left-second None e = refl
-left-second (At number place) e = ap (any_left (At number place)) e
+left-second : (first : Fault) {second : Fault} → second ≡ no_fault → any_left first second ≡ true
+left-second no_fault e = refl
+left-second (Err r) e = ap (any_left (fault_at r.number r.place)) e
 
-pub left-either : (first second : Fault) → any_left first second ≡ true → (first ≡ None) ⊎ (second ≡ None)
-left-either None second e = inl refl
-left-either (At number place) None e = inr refl
-left-either (At number place) (At m p) e = clash e refl
+pub left-either : (first second : Fault) → any_left first second ≡ true → (first ≡ no_fault) ⊎ (second ≡ no_fault)
+left-either no_fault second e = inl refl
+left-either (Err r) no_fault e = inr refl
+left-either (Err r) (Err q) e = clash e refl
 
 -- no test is met: neither of those up to 9, nor 10
-late-none : (early lattice : Fault) (members : ℕ) → late_fault early members lattice ≡ None → (early ≡ None) × (0 < members)
+late-none : (early lattice : Fault) (members : ℕ) → late_fault early members lattice ≡ no_fault → (early ≡ no_fault) × (0 < members)
 late-none early lattice members e =
     let a = tests-none early _ e in
     let b = tests-none (fault_if 10 (eqb members 0)) _ a.1 in
@@ -164,7 +164,7 @@ module _ (first second : Order) (list_size group_size : ℕ) where
     held = λ h. (some h).1.held (some h).0;
   }
     where
-      ten-second : early₁ ≡ None
+      ten-second : early₁ ≡ no_fault
           → eqb tests.members 0 ≡ not (leb (length (table_of second group_size)) (group_rows second.n group_size))
       ten-second e =
           ten-told (T (left-second early₀ e))
@@ -174,7 +174,7 @@ module _ (first second : Order) (list_size group_size : ℕ) where
       some : any_left tests.first tests.second ≡ true → (0 < tests.members) × Tabled first group_size group tests.members
       some h = go (left-either tests.first tests.second h)
         where
-          go : (tests.first ≡ None) ⊎ (tests.second ≡ None) → (0 < tests.members) × Tabled first group_size group tests.members
+          go : (tests.first ≡ no_fault) ⊎ (tests.second ≡ no_fault) → (0 < tests.members) × Tabled first group_size group tests.members
           go (inl e) = let l = late-none _ _ _ (sym a ∙ e) in (l.1, T (left-first early₁ l.0))
           go (inr e) = let l = late-none _ _ _ (sym b ∙ e) in (l.1, T (left-second early₀ l.0))
 
@@ -182,6 +182,6 @@ module _ (first second : Order) (list_size group_size : ℕ) where
   pub left-exchangeable : any_left early₀ early₁ ≡ true → Exchangeable first.n first.exchanges
   left-exchangeable h = go (left-either early₀ early₁ h)
     where
-      go : (early₀ ≡ None) ⊎ (early₁ ≡ None) → Exchangeable first.n first.exchanges
+      go : (early₀ ≡ no_fault) ⊎ (early₁ ≡ no_fault) → Exchangeable first.n first.exchanges
       go (inl e) = early-exchangeable first second list_size group_size e
       go (inr e) = other-exchangeable second first list_size group_size e

@@ -1,9 +1,9 @@
 -- What the parts of a session find, by the definitions (Specification 3.8). Assumes nothing.
+use Rattle.definitions.specs.Refusals.{Outcome, refused}
+use Rattle.std.specs.declared.result.Result.TheVariants.{Err}
+use Rattle.definitions.specs.Refusals.{Fault, no_fault, fault_at}
 use Rattle.std.specs.Prelude.{◌≡◌, Bool, true, false, List, [], ◌∷◌, ◌++◌, ℕ, ◌≤◌, ◌<◌, eqb, ℤ, length}
 use Rattle.definitions.specs.declared.Ending.{Ending}
-use Rattle.definitions.specs.declared.Ending.TheVariants.{Moves, Unfinished, Refused}
-use Rattle.definitions.specs.declared.Fault.{Fault}
-use Rattle.definitions.specs.declared.Fault.TheVariants.{None, At}
 use Rattle.definitions.specs.declared.Session.{Session}
 use Rattle.definitions.specs.Limits.{cells, session_rows}
 use Rattle.definitions.specs.Lists.{concat}
@@ -27,9 +27,9 @@ shared_in n other list_size = shared_fault (order_of n [] [] []) (order_of other
 
 -- one of the orders has met no test
 abbrev pub any_left : (first second : Fault) → Bool
-any_left None second = true
-any_left (At number place) None = true
-any_left (At number place) (At m p) = false
+any_left no_fault second = true
+any_left (Err r) no_fault = true
+any_left (Err r) (Err q) = false
 
 -- exchanges whose group can be made
 pub record Exchangeable (n : ℕ) (exchanges : List ℕ) : Type 0 where
@@ -63,7 +63,7 @@ shape_of n tests = record { n = n; g = tests.members }
 
 -- an order that met no test has a table that keeps its lattice
 abbrev pub GroupedUnless : Fault → Shape → (generators : List ℤ) (table : List ℕ) → Type 0
-GroupedUnless fault shape generators table = fault ≡ None → Grouped shape generators table
+GroupedUnless fault shape generators table = fault ≡ no_fault → Grouped shape generators table
 
 -- what an order has come to that met `fault`, after `count` steps
 abbrev pub result_by : Shape → (table : List ℕ) (fault : Fault) (generators : List ℤ) (count : ℕ) → Result
@@ -88,10 +88,5 @@ EndsIn tests n generators0 generators1 list table steps r =
     list.exit.now r
 
 -- the end of an order that meets a test
-abbrev pub RefusedBy : Fault → Ending → Type 0
-RefusedBy fault r = (number place : ℕ) → fault ≡ At number place → r ≡ Refused number place
-
-abbrev pub ends_refused : Ending → Bool
-ends_refused (Moves rows members stored sums) = false
-ends_refused (Unfinished sums) = false
-ends_refused (Refused number place) = true
+abbrev pub RefusedBy : Fault → Outcome Ending → Type 0
+RefusedBy fault r = (number place : ℕ) → fault ≡ fault_at number place → r ≡ refused number place

@@ -2,33 +2,32 @@
 #![tactic(auto)]
 
 ghost use Rattle.std.specs.Prelude.{◌≡◌, true, [], ◌∷◌, ◌+◌, ◌≤◌, length};
-ghost use Rattle.definitions.specs.declared.Fault.TheVariants.{None};
 ghost use Rattle.definitions.specs.Limits.{cells};
 ghost use Rattle.definitions.specs.Lent.{order_of};
-ghost use Rattle.definitions.specs.Refusals.{first_fault, lattice_fault};
+ghost use Rattle.definitions.specs.Refusals.{first_fault, lattice_fault, no_fault};
 ghost use Rattle.definitions.specs.Session.{difference_from, half, own_fault};
 ghost use Rattle.vectors.specs.Areas.{sent_order};
 ghost use Rattle.admission.specs.Admission.{Numbered};
 ghost use Rattle.moves.specs.Found.{Grouped};
 ghost use Rattle.session_orders.specs.Ends.{OrderEnds};
 ghost use Rattle.sessions.specs.Found.{EndsIn, Exchangeable, Finds, GroupedUnless, RefusedBy, Tabled, any_left};
-ghost use Rattle.sessions.specs.Found.{ends_refused, late_fault, result_by, shape_of, shared_in};
+ghost use Rattle.sessions.specs.Found.{late_fault, result_by, shape_of, shared_in};
 ghost use Rattle.sessions.specs.Promise.{KeepsSession};
 
 use admission::{lattice_fault, rows_up_to, sent_fault};
 use definitions::limits::{GROUP_LIMIT, SESSION_ROWS};
-use definitions::{Ending, Fault, Session};
-use group::{Built, group_table};
+use definitions::{Ending, Refusal, Session};
+use group::group_table;
 use reduction::Shape;
-use refusals::{fault_if, first_met};
+use refusals::fault_if;
 use session_orders::{complete_order, count_steps};
-use vectors::{clear, clear_bytes};
+use vectors::clear;
 
 // What the tests of both orders find, and the number of members of their group where one of them is left.
 #[derive(Clone, Copy)]
 struct Tests {
-    first: Fault,
-    second: Fault,
+    first: Result<(), Refusal>,
+    second: Result<(), Refusal>,
     members: usize,
 }
 
@@ -36,82 +35,66 @@ struct Tests {
 
 // 5 and 6 of both orders: unequal numbers of cells, and a list area of so many numbers that is not two halves; the
 // product is not formed.
-fn shared_fault(n: usize, other: usize, list: usize) -> Fault
+fn shared_fault(n: usize, other: usize, list: usize) -> Result<(), Refusal>
     ensures met { result ≡ shared_in n other list }
 {
     let rows = 2 * SESSION_ROWS;
-    let cells = fault_if(5, n != other);
-    let sizes = fault_if(6, !((list % rows == 0) & (list / rows == n)));
-    first_met(cells, sizes)
+    fault_if(5, n != other)?;
+    fault_if(6, !((list % rows == 0) & (list / rows == n)))
 }
 
 // 9 of an order: the first of its exchanges that differs from the other's.
-fn difference_fault(n: usize, exchanges: &[u8], others: &[u8]) -> Fault
+fn difference_fault(n: usize, exchanges: &[u8], others: &[u8]) -> Result<(), Refusal>
     requires some { 1 ≤ n }
     ensures met { result ≡ difference_from n 0 exchanges.now others.now }
 {
-    let mut p = 0;
-    while p < exchanges.len() {
+    for p in 0..exchanges.len() {
         if others.len() <= p {
-            return Fault::At {
+            return Err(Refusal {
                 number: 9,
                 place: (p / n) as u64,
-            };
+            });
         }
         if exchanges[p] != others[p] {
-            return Fault::At {
+            return Err(Refusal {
                 number: 9,
                 place: (p / n) as u64,
-            };
+            });
         }
-        p += 1;
     }
-    if p < others.len() {
-        return Fault::At {
+    if exchanges.len() < others.len() {
+        return Err(Refusal {
             number: 9,
-            place: (p / n) as u64,
-        };
+            place: (exchanges.len() / n) as u64,
+        });
     }
-    Fault::None
+    Ok(())
 }
 
 // 5 to 9 of an order beside another, after the shared tests.
 fn early_fault(
-    shared: Fault,
+    shared: Result<(), Refusal>,
     n: usize,
     generators: &[i32],
     exchanges: &[u8],
     images: &[i64],
     others: &[u8],
     group: usize,
-) -> Fault
+) -> Result<(), Refusal>
     ensures met { let own = own_fault (sent_order n generators exchanges images) group in
         let difference = difference_from n 0 exchanges.now others.now in
         result ≡ first_fault (shared ∷ own ∷ difference ∷ []) }
 {
-    match shared {
-        Fault::At { number, place } => Fault::At { number, place },
-        Fault::None => {
-            let own = sent_fault(n, generators, exchanges, images, group, true);
-            match own {
-                Fault::At { number, place } => Fault::At { number, place },
-                Fault::None => difference_fault(n, exchanges, others),
-            }
-        }
-    }
+    shared?;
+    sent_fault(n, generators, exchanges, images, group, true)?;
+    difference_fault(n, exchanges, others)
 }
 
 // Whether one of the orders has met no test.
-fn is_left(first: Fault, second: Fault) -> bool
+fn is_left(first: Result<(), Refusal>, second: Result<(), Refusal>) -> bool
     ensures told { result ≡ any_left first second }
 {
-    match first {
-        Fault::None => true,
-        Fault::At { number, place } => match second {
-            Fault::None => true,
-            Fault::At { number, place } => false,
-        },
-    }
+    first.is_ok() | second.is_ok()
 }
 
 // Where an order is left: the number of members of the group, and its table in its area; 0 where it has more than the
@@ -125,37 +108,24 @@ fn build_table(left: bool, n: usize, exchanges: &[u8], group: &mut [u8]) -> usiz
         return 0;
     }
     let limit = rows_up_to(GROUP_LIMIT, n, group.len());
-    let built = group_table(&mut *group, n, limit, exchanges);
-    match built {
-        Built::TooLarge => 0,
-        Built::Members(g) => g,
-    }
+    group_table(&mut *group, n, limit, exchanges).unwrap_or(0)
 }
 
 // 10, and 11 or 23, of an order that is left.
 fn late_fault(
-    early: Fault,
+    early: Result<(), Refusal>,
     members: usize,
     n: usize,
     generators: &[i32],
     exchanges: &[u8],
     images: &[i64],
-) -> Fault
-    requires numbered { early ≡ None → Numbered (order_of n generators.now exchanges.now images.now) }
+) -> Result<(), Refusal>
+    requires numbered { early ≡ no_fault → Numbered (order_of n generators.now exchanges.now images.now) }
     ensures met { result ≡ late_fault early members (lattice_fault (sent_order n generators exchanges images)) }
 {
-    match early {
-        Fault::At { number, place } => Fault::At { number, place },
-        Fault::None => {
-            if members == 0 {
-                return Fault::At {
-                    number: 10,
-                    place: 0,
-                };
-            }
-            lattice_fault(n, generators, exchanges, images)
-        }
-    }
+    early?;
+    fault_if(10, members == 0)?;
+    lattice_fault(n, generators, exchanges, images)
 }
 
 // The tests of both orders, and the table of their group in its area, built once.
@@ -207,24 +177,22 @@ fn test_both(
 
 // One order on its half: refused by a test, or its steps and its end.
 fn run_order(
-    fault: Fault,
+    fault: Result<(), Refusal>,
     generators: &[i32],
     list: &mut [i32],
     table: &[u8],
     shape: Shape,
     count: usize,
-) -> Ending
-    requires grouped { fault ≡ None → Grouped shape generators.now table.now }
+) -> Result<Ending, Refusal>
+    requires grouped { fault ≡ no_fault → Grouped shape generators.now table.now }
     requires sized { length list.old ≡ half shape.n }
     ensures ended { OrderEnds shape.n (result_by shape table.now fault generators.now count) list.new result }
 {
-    match fault {
-        Fault::At { number, place } => {
-            clear(list, 0);
-            Ending::Refused { number, place }
-        }
-        Fault::None => complete_order(generators, list, table, shape, count),
+    if let Err(refusal) = fault {
+        clear(list, 0, 0);
+        return Err(refusal);
     }
+    complete_order(generators, list, table, shape, count)
 }
 
 // Both orders, each on its half.
@@ -270,29 +238,11 @@ fn run_both(
 }
 
 // The end of an order that a test refuses.
-fn refused_by(fault: Fault) -> Ending
+fn refused_by(fault: Result<(), Refusal>) -> Result<Ending, Refusal>
     ensures refused { RefusedBy fault result }
 {
-    match fault {
-        Fault::At { number, place } => Ending::Refused { number, place },
-        Fault::None => Ending::Unfinished { sums: 0 },
-    }
-}
-
-// Whether an order is refused.
-fn is_refused(ending: Ending) -> bool
-    ensures told { result ≡ ends_refused ending }
-{
-    match ending {
-        Ending::Refused { number, place } => true,
-        Ending::Unfinished { sums } => false,
-        Ending::Moves {
-            rows,
-            members,
-            stored,
-            sums,
-        } => false,
-    }
+    fault?;
+    Ok(Ending::Unfinished { sums: 0 })
 }
 
 // Two orders on one group table: a step tries a sum of the order that it names, 0 or 1 (Specification 3.8). Each answer
@@ -330,8 +280,8 @@ pub fn session(
     let first = tests.first;
     let second = tests.second;
     if !is_left(first, second) {
-        clear(list, 0);
-        clear_bytes(group, 0);
+        clear(list, 0, 0);
+        clear(group, 0, 0);
         return Session {
             first: refused_by(first),
             second: refused_by(second),
@@ -346,11 +296,8 @@ pub fn session(
         &*group,
         steps,
     );
-    let end0 = answer.first;
-    let end1 = answer.second;
-    if is_refused(end0) & is_refused(end1) {
-        clear_bytes(group, 0);
-        return answer;
+    if answer.first.is_err() & answer.second.is_err() {
+        clear(group, 0, 0);
     }
     answer
 }

@@ -1,5 +1,6 @@
 -- What the tests under size, generators and exchanges say of an order that meets none (Specification 7.2 and 7.3): above all, that every
 -- member of the group keeps the lattice. Assumes nothing.
+use Rattle.definitions.specs.Refusals.{no_fault}
 use Rattle.std.specs.Prelude.{if◌then◌else◌}
 use mathlib.Core.Path.{◌≡◌, refl, sym, ◌∙◌, subst}
 use mathlib.Core.Bool.{Bool, true, false, not, ◌&&◌, ◌||◌}
@@ -11,7 +12,6 @@ use lib.Dec.{leb}
 use lib.IntN.{ℤ, pos, nat_abs}
 use lib.ListN.{length, get_or, take, drop, replicate, length-append, length-replicate, length-take}
 use native.Mathlib.Omega.{arith}
-use Rattle.definitions.specs.declared.Fault.TheVariants.{None}
 use Rattle.definitions.specs.Limits.{cells, entry_limit, group_limit, image_limit}
 use Rattle.definitions.specs.Lists.{any}
 use Rattle.definitions.specs.Vector.{Vector, equal, is_member, is_zero, negative, padded, plus, zero_vector}
@@ -80,7 +80,7 @@ unfolding is_past
 past-none limit x e = leb-true (nat_abs x) limit (not-false (leb (nat_abs x) limit) e)
 
 -- no number of a list is past the limit
-pub past-where : (number limit : ℕ) (numbers : List ℤ) → fault_where number (length numbers) (λ p. is_past limit (get_or numbers p (pos 0))) ≡ None → Within limit numbers
+pub past-where : (number limit : ℕ) (numbers : List ℤ) → fault_where number (length numbers) (λ p. is_past limit (get_or numbers p (pos 0))) ≡ no_fault → Within limit numbers
 past-where number limit numbers e =
     each_from numbers (pos 0) (λ p l. past-none limit (get_or numbers p (pos 0)) ((where-none number (length numbers) (λ p. is_past limit (get_or numbers p (pos 0)))).0 e p l))
 
@@ -89,7 +89,7 @@ pub record Sized (n : ℕ) : Type 0 where
   pub least : 1 ≤ n
   pub most : n ≤ cells
 
-pub cells-none : (n : ℕ) → cells_fault n ≡ None → Sized n
+pub cells-none : (n : ℕ) → cells_fault n ≡ no_fault → Sized n
 unfolding cells_fault
 cells-none n e =
     let b = not-false (leb 1 n && leb n cells) (if_none 5 (not (leb 1 n && leb n cells)) e) in
@@ -97,11 +97,11 @@ cells-none n e =
 
 -- ---- 5 to 11, one after the other
 pub record Admitted (order : Order) (group_size : ℕ) (fits : Bool) : Type 0 where
-  pub cells_pass : cells_fault order.n ≡ None
-  pub sizes_pass : size_fault order group_size fits ≡ None
-  pub tests_pass : order_fault order group_size ≡ None
+  pub cells_pass : cells_fault order.n ≡ no_fault
+  pub sizes_pass : size_fault order group_size fits ≡ no_fault
+  pub tests_pass : order_fault order group_size ≡ no_fault
 
-pub admission-none : (order : Order) (group_size : ℕ) (fits : Bool) → admission_fault order group_size fits ≡ None → Admitted order group_size fits
+pub admission-none : (order : Order) (group_size : ℕ) (fits : Bool) → admission_fault order group_size fits ≡ no_fault → Admitted order group_size fits
 unfolding admission_fault
 admission-none order group_size fits e =
     let a = tests-none (cells_fault order.n) _ e in
@@ -115,7 +115,7 @@ pub record Sendable (order : Order) : Type 0 where
   pub nonzero : Each (λ g. is_zero g ≡ false) (generators_of order)
   pub exchanges : AllExchanges order.n (exchanges_of order)
 
-pub numbers-none : (order : Order) → numbers_fault order ≡ None → Sendable order
+pub numbers-none : (order : Order) → numbers_fault order ≡ no_fault → Sendable order
 unfolding numbers_fault
 numbers-none order e =
     let a = tests-none _ _ e in
@@ -140,9 +140,9 @@ numbers-none order e =
 pub record Acceptable (order : Order) (group_size : ℕ) : Type 0 where
   pub sendable : Sendable order
   pub roomy : length (table_of order group_size) ≤ group_rows order.n group_size
-  pub keeping : lattice_fault order ≡ None
+  pub keeping : lattice_fault order ≡ no_fault
 
-pub order-none : (order : Order) (group_size : ℕ) → order_fault order group_size ≡ None → Acceptable order group_size
+pub order-none : (order : Order) (group_size : ℕ) → order_fault order group_size ≡ no_fault → Acceptable order group_size
 unfolding order_fault symmetry_fault
 order-none order group_size e =
     let both = tests-none (numbers_fault order) _ e in
@@ -155,7 +155,7 @@ order-none order group_size e =
     }
 
 -- the table has at most so many rows as a group may have members
-pub table-small : (order : Order) (group_size : ℕ) → order_fault order group_size ≡ None → length (table_of order group_size) ≤ group_limit
+pub table-small : (order : Order) (group_size : ℕ) → order_fault order group_size ≡ no_fault → length (table_of order group_size) ≤ group_limit
 unfolding group_rows
 table-small order group_size e = omega (arith, (order-none order group_size e).roomy)
 
@@ -196,7 +196,7 @@ unfolding leaves_generators
 stays-generator generators sent g h s k =
     not-false (is_generator generators (exchanged s g)) (each_member (any_none (λ t. not (is_generator generators (exchanged t g))) sent h) k)
 
-pub closed-stays : {generators : List Vector} {sent : List Exchange} → leaving_fault generators sent ≡ None → (s : Exchange) → Memᴰ s sent → Each (λ g. is_generator generators (exchanged s g) ≡ true) generators
+pub closed-stays : {generators : List Vector} {sent : List Exchange} → leaving_fault generators sent ≡ no_fault → (s : Exchange) → Memᴰ s sent → Each (λ g. is_generator generators (exchanged s g) ≡ true) generators
 unfolding leaving_fault
 closed-stays {generators} {sent} e s k =
     each_map (λ g (f : leaves_generators generators sent g ≡ false). stays-generator generators sent g f s k)
@@ -215,7 +215,7 @@ certified limit generators sizes coefficients v e =
     let b = or-false-right (any (is_past limit) coefficients) (not (equal (combination coefficients generators) v)) e in
     subst (InLattice generators) (equal-same (combination coefficients generators) v (not-false (equal (combination coefficients generators) v) b)) (combination-inside coefficients sizes)
 
-shown-keeps : (generators : List Vector) (sent : List Exchange) (coefficients : List ℤ) → Each (λ g. length g ≡ cells) generators → images_fault generators sent coefficients ≡ None
+shown-keeps : (generators : List Vector) (sent : List Exchange) (coefficients : List ℤ) → Each (λ g. length g ≡ cells) generators → images_fault generators sent coefficients ≡ no_fault
     → (s : Exchange) → Memᴰ s sent → Each (λ g. InLattice generators (exchanged s g)) generators
 unfolding images_fault
 shown-keeps generators sent coefficients sizes e s k = each_of generators (λ g m. one (exchanged s g) (in-images generators s g k m))
@@ -234,7 +234,7 @@ shown-keeps generators sent coefficients sizes e s k = each_of generators (λ g 
         ((where-none 23 (length images) (λ p. is_uncertified image_limit generators (get_or certificates p []) (get_or images p []))).0 e at.0 at.1))
 
 -- EITHER TEST makes sure that the images of generators are in the lattice
-order-keeps : (order : Order) → order.n ≤ cells → lattice_fault order ≡ None → (s : Exchange) → Memᴰ s (exchanges_of order) → Each (λ g. InLattice (generators_of order) (exchanged s g)) (generators_of order)
+order-keeps : (order : Order) → order.n ≤ cells → lattice_fault order ≡ no_fault → (s : Exchange) → Memᴰ s (exchanges_of order) → Each (λ g. InLattice (generators_of order) (exchanged s g)) (generators_of order)
 unfolding lattice_fault
 order-keeps order h e s k = go (is_bare order) e
   where
@@ -244,12 +244,12 @@ order-keeps order h e s k = go (is_bare order) e
     sizes : Each (λ g. length g ≡ cells) generators
     sizes = generators-length order h
 
-    go : (b : Bool) → (if b then images_fault generators (exchanges_of order) order.images else leaving_fault generators (exchanges_of order)) ≡ None → Each (λ g. InLattice generators (exchanged s g)) generators
+    go : (b : Bool) → (if b then images_fault generators (exchanges_of order) order.images else leaving_fault generators (exchanges_of order)) ≡ no_fault → Each (λ g. InLattice generators (exchanged s g)) generators
     go true f = shown-keeps generators (exchanges_of order) order.images sizes f s k
     go false f = each_map (λ g (t : is_generator generators (exchanged s g) ≡ true). is-generator generators sizes (exchanged s g) t) (closed-stays f s k)
 
 -- AN ORDER THAT MEETS NO TEST UP TO 11, OR 23 IN ITS PLACE, keeps its lattice, and its table is its group's
-pub order-symmetric : (order : Order) (group_size : ℕ) → cells_fault order.n ≡ None → order_fault order group_size ≡ None
+pub order-symmetric : (order : Order) (group_size : ℕ) → cells_fault order.n ≡ no_fault → order_fault order group_size ≡ no_fault
     → Symmetric order.n (exchanges_of order) (table_of order group_size) (generators_of order)
 unfolding table_of
 order-symmetric order group_size e f = record {
@@ -267,7 +267,7 @@ order-symmetric order group_size e f = record {
     sizes = generators-length order (cells-none order.n e).most
 
 -- its generators are nonzero and within the limit
-pub order-generators : (order : Order) (group_size : ℕ) → order_fault order group_size ≡ None → Each (λ g. ¬ (g ≡ zero_vector)) (generators_of order) × Each (Within entry_limit) (generators_of order)
+pub order-generators : (order : Order) (group_size : ℕ) → order_fault order group_size ≡ no_fault → Each (λ g. ¬ (g ≡ zero_vector)) (generators_of order) × Each (Within entry_limit) (generators_of order)
 unfolding generators_of
 order-generators order group_size f =
     let A = order-none order group_size f in

@@ -1,5 +1,6 @@
 -- BARE ORDERS: an order that sends a basis and shows its images by coefficients has the list of the order with all images sent as generators,
 -- where both are accepted. Assumes nothing.
+use Rattle.definitions.specs.Refusals.{no_fault}
 use Rattle.std.specs.Prelude.{if◌then◌else◌}
 use mathlib.Core.Path.{◌≡◌, refl, sym, subst, ◌∙◌, ap}
 use mathlib.Core.Bool.{Bool, true, false, ◌||◌}
@@ -10,7 +11,6 @@ use native.Mathlib.Omega.{arith}
 use lib.ListN.{length, get_or, length-map, get_or-append}
 use lib.Seq.{get_or-append-add}
 use lib.IntN.{pos, negsuc}
-use Rattle.definitions.specs.declared.Fault.TheVariants.{None}
 use Rattle.definitions.specs.Lists.{any, range}
 use Rattle.definitions.specs.Vector.{Vector, equal, equal_cell, is_member, negative, padded}
 use Rattle.definitions.specs.Group.{Exchange, InGroup, applied, composed, exchanged, identity, unit}
@@ -79,7 +79,7 @@ negative-generator generators v e =
     either false false e = e
 
 -- EVERY MEMBER OF ITS GROUP TAKES A GENERATOR TO A GENERATOR or the negative of one, where the order is not bare
-pub closed-members : (order : Order) (group_size : ℕ) → is_bare order ≡ false → cells_fault order.n ≡ None → order_fault order group_size ≡ None
+pub closed-members : (order : Order) (group_size : ℕ) → is_bare order ≡ false → cells_fault order.n ≡ no_fault → order_fault order group_size ≡ no_fault
     → (s : Exchange) → InGroup order.n (exchanges_of order) s → Each (λ g. is_generator (generators_of order) (exchanged s g) ≡ true) (generators_of order)
 unfolding lattice_fault is_generator
 closed-members order group_size b e f s m =
@@ -97,7 +97,7 @@ closed-members order group_size b e f s m =
     P : Vector → Type 0
     P v = is_generator generators v ≡ true
 
-    closed : leaving_fault generators sent ≡ None
+    closed : leaving_fault generators sent ≡ no_fault
     closed = sym (ap (λ (x : Bool). if x then images_fault generators sent order.images else leaving_fault generators sent) b) ∙ A.keeping
 
     long : (g : Vector) → Memᴰ g generators → order.n ≤ length g

@@ -1,5 +1,8 @@
 -- CHECK (Specification 5.2, demand 3): no refusal if and only if the rules are kept and the list is whole; of a passed list every lattice
 -- vector is a sum of images of rows, none opposing it. Assumes nothing.
+use Rattle.definitions.specs.Refusals.{accepted}
+use Rattle.std.specs.declared.result.Result.TheVariants.{Err}
+use Rattle.definitions.specs.Refusals.{Fault, no_fault}
 use mathlib.Core.Path.{◌≡◌, refl, sym, ◌∙◌, ap, subst}
 use mathlib.Core.Logic.{◌↔◌}
 use mathlib.Core.Bool.{true, false, not, ◌||◌}
@@ -10,8 +13,6 @@ use lib.IntN.{ℤ}
 use lib.ListN.{length, get_or, length-map}
 use native.Mathlib.Omega.{arith}
 use Rattle.definitions.specs.declared.Answer.TheVariants.{Passed}
-use Rattle.definitions.specs.declared.Fault.{Fault}
-use Rattle.definitions.specs.declared.Fault.TheVariants.{None, At}
 use Rattle.definitions.specs.Limits.{coefficient_limit, entry_limit}
 use Rattle.definitions.specs.Vector.{Vector, equal, is_zero, padded, within}
 use Rattle.definitions.specs.Lattice.{InLattice}
@@ -67,12 +68,12 @@ placed-sorted rows f = record { ascending = λ r l. not-false (precedes (get_or 
 
 -- rows that meet none of 17 to 19 may be stored
 module _ {n : ℕ} {sent table : List Exchange} {generators : List Vector} (O : Symmetric n sent table generators) (rows : List Vector) (coefficients : List ℤ)
-    (passed : rows_fault table generators rows coefficients ≡ None) where
+    (passed : rows_fault table generators rows coefficients ≡ no_fault) where
   abbrev certificates : List (List ℤ)
   certificates = chunks (length generators) (length rows) coefficients
 
   -- 17, 18 and 19 are not met
-  unmet : (fault_where 17 (length rows) (λ r. is_unfit table (get_or rows r [])) ≡ None) × (fault_where 18 (length rows) (is_misplaced rows) ≡ None) × (fault_where 19 (length rows) (λ r. is_uncertified coefficient_limit generators (get_or certificates r []) (get_or rows r [])) ≡ None)
+  unmet : (fault_where 17 (length rows) (λ r. is_unfit table (get_or rows r [])) ≡ no_fault) × (fault_where 18 (length rows) (is_misplaced rows) ≡ no_fault) × (fault_where 19 (length rows) (λ r. is_uncertified coefficient_limit generators (get_or certificates r []) (get_or rows r [])) ≡ no_fault)
   unfolding rows_fault
   unmet =
       let x = tests-none _ _ passed in
@@ -122,14 +123,14 @@ module _ (order : Order) (brought coefficients : List ℤ) (group_size : ℕ) wh
       }
 
   -- ---- 20 to 22
-  wholeness-passes : (F : RulesFacts) → (wholeness_fault table (generators_of order) rows ≡ None) ↔ Passes F.symmetric rows F.stored
+  wholeness-passes : (F : RulesFacts) → (wholeness_fault table (generators_of order) rows ≡ no_fault) ↔ Passes F.symmetric rows F.stored
   unfolding wholeness_fault
   wholeness-passes F = (into, back)
     where
       generators : List Vector
       generators = generators_of order
 
-      into : wholeness_fault table generators rows ≡ None → Passes F.symmetric rows F.stored
+      into : wholeness_fault table generators rows ≡ no_fault → Passes F.symmetric rows F.stored
       into e =
           let a = tests-none _ _ e in
           let b = tests-none _ _ a.1 in
@@ -140,13 +141,13 @@ module _ (order : Order) (brought coefficients : List ℤ) (group_size : ℕ) wh
             apart = (where-none 22 (length rows) (has_other_below table rows)).0 c.0;
           }
 
-      back : Passes F.symmetric rows F.stored → wholeness_fault table generators rows ≡ None
+      back : Passes F.symmetric rows F.stored → wholeness_fault table generators rows ≡ no_fault
       back P =
           none-all _ ((where-none 20 (length generators) (λ p. not (is_zero (remainder table rows (get_or generators p []))))).1 (λ p l. ap not (P.generators_zero p l)))
           (none-all _ ((sums_none table rows F.nonempty).1 P.sums_zero) (none-all _ ((where-none 22 (length rows) (has_other_below table rows)).1 P.apart) none_end))
 
   -- CHECK MEETS NO TEST IF AND ONLY IF THE RULES ARE KEPT AND THE LIST IS WHOLE
-  pub check-whole : (check_fault order brought coefficients group_size ≡ None) ↔ (RulesKept order brought coefficients group_size × Whole order.n (exchanges_of order) (generators_of order) rows)
+  pub check-whole : (check_fault order brought coefficients group_size ≡ no_fault) ↔ (RulesKept order brought coefficients group_size × Whole order.n (exchanges_of order) (generators_of order) rows)
   unfolding check_fault
   check-whole = (
     λ e. let a = tests-none (rules_fault order brought coefficients group_size) _ e in
@@ -157,7 +158,7 @@ module _ (order : Order) (brought coefficients : List ℤ) (group_size : ℕ) wh
   )
 
   -- OF A PASSED LIST: conformal sums of images of its rows make up the whole lattice
-  pub check-conformal : check_fault order brought coefficients group_size ≡ None → (v : Vector) → InLattice (generators_of order) v → ConformalSum order.n (exchanges_of order) rows v
+  pub check-conformal : check_fault order brought coefficients group_size ≡ no_fault → (v : Vector) → InLattice (generators_of order) v → ConformalSum order.n (exchanges_of order) rows v
   unfolding check_fault
   check-conformal e v h =
       let a = tests-none (rules_fault order brought coefficients group_size) _ e in
@@ -176,15 +177,15 @@ module _ (order : Order) (brought coefficients : List ℤ) (group_size : ℕ) wh
 
   -- ---- the answer
   -- THE ANSWER IS A PASS exactly then, and reports r rows and g × r × (r + 1) sums
-  pub check-answer : ((check_call order brought coefficients group_size).answer ≡ Passed (length rows) (sum_count (length table) (length rows)))
+  pub check-answer : ((check_call order brought coefficients group_size).answer ≡ accepted (Passed (length rows) (sum_count (length table) (length rows))))
       ↔ (RulesKept order brought coefficients group_size × Whole order.n (exchanges_of order) (generators_of order) rows)
   unfolding check_call check_end
   check-answer = (λ e. check-whole.0 (no-fault (check_fault order brought coefficients group_size) refl e), λ h. passed (check_fault order brought coefficients group_size) (check-whole.1 h))
     where
-      no-fault : (fault : Fault) → check_fault order brought coefficients group_size ≡ fault → (check_end group_size (length brought / order.n) table fault).answer ≡ Passed (length rows) (sum_count (length table) (length rows)) → check_fault order brought coefficients group_size ≡ None
-      no-fault None q e = q
-      no-fault (At number place) q e = let z : ◌≡◌ {A = ℕ} 0 1 = cc in absurd (omega arith)
+      no-fault : (fault : Fault) → check_fault order brought coefficients group_size ≡ fault → (check_end group_size (length brought / order.n) table fault).answer ≡ accepted (Passed (length rows) (sum_count (length table) (length rows))) → check_fault order brought coefficients group_size ≡ no_fault
+      no-fault no_fault q e = q
+      no-fault (Err r) q e = let z : ◌≡◌ {A = ℕ} 0 1 = cc in absurd (omega arith)
 
-      passed : (fault : Fault) → fault ≡ None → (check_end group_size (length brought / order.n) table fault).answer ≡ Passed (length rows) (sum_count (length table) (length rows))
+      passed : (fault : Fault) → fault ≡ no_fault → (check_end group_size (length brought / order.n) table fault).answer ≡ accepted (Passed (length rows) (sum_count (length table) (length rows)))
       passed fault e = ap (λ (f : Fault). (check_end group_size (length brought / order.n) table f).answer) e
-          ∙ ap (λ (r : ℕ). Passed r (sum_count (length table) r)) (sym (vectors-count order.n brought))
+          ∙ ap (λ (r : ℕ). (accepted (Passed r (sum_count (length table) r)))) (sym (vectors-count order.n brought))

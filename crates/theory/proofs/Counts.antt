@@ -1,5 +1,6 @@
 -- How great the numbers of accepted calls can be (Specification 4.1, 6 and 7.4): the counts that answers report, and the numbers of pieces.
 -- Assumes nothing.
+use Rattle.definitions.specs.Refusals.{no_fault}
 use mathlib.Core.Path.{◌≡◌, refl, subst}
 use mathlib.Core.Bool.{Bool, true, false}
 use mathlib.Core.List.{List, [], ◌∷◌, map, Memᴰ}
@@ -7,7 +8,6 @@ use Prim.Native.Nat.{ℕ, zero, suc, ◌/◌, ◌≤◌, ◌<◌}
 use native.Mathlib.Omega.{arith}
 use lib.IntN.{ℤ, pos, nat_abs}
 use lib.ListN.{length}
-use Rattle.definitions.specs.declared.Fault.TheVariants.{None}
 use Rattle.definitions.specs.Limits.{group_limit, list_limit, piece_width, split_limit}
 use Rattle.definitions.specs.Lists.{concat}
 use Rattle.definitions.specs.Vector.{Vector, padded, scale, weight}
@@ -53,7 +53,7 @@ pub record CheckCounts (order : Order) (brought : List ℤ) (group_size : ℕ) :
   pub sums : sum_count (length (table_of order group_size)) (length brought / order.n) ≤ place_limit
 
 -- CHECK: the counts that a passed one reports
-pub check-counts : (order : Order) (brought coefficients : List ℤ) (group_size : ℕ) → check_fault order brought coefficients group_size ≡ None → CheckCounts order brought group_size
+pub check-counts : (order : Order) (brought coefficients : List ℤ) (group_size : ℕ) → check_fault order brought coefficients group_size ≡ no_fault → CheckCounts order brought group_size
 unfolding check_fault rules_fault
 check-counts order brought coefficients group_size e =
     let a = tests-none (rules_fault order brought coefficients group_size) _ e in

@@ -1,5 +1,6 @@
 -- LIST (Specification 3, demand 2): an accepted listing is whole, sorted, each row the greatest of its images and within the limit; and the
 -- completion stops short only by 12 or 13. Assumes nothing.
+use Rattle.definitions.specs.Refusals.{no_fault}
 use mathlib.Core.Path.{◌≡◌, refl, subst}
 use mathlib.Core.Logic.{◌⊎◌, inl, inr}
 use mathlib.Core.Bool.{not}
@@ -8,7 +9,6 @@ use Prim.Native.Nat.{ℕ, ◌≤◌}
 use lib.Dec.{leb}
 use lib.ListN.{length}
 use native.Mathlib.Omega.{arith}
-use Rattle.definitions.specs.declared.Fault.TheVariants.{None}
 use Rattle.definitions.specs.Limits.{entry_limit, group_limit, list_limit}
 use Rattle.definitions.specs.Vector.{Vector, is_zero, within, zero_vector}
 use Rattle.definitions.specs.Group.{Exchange}
@@ -37,7 +37,7 @@ pub record ListFacts (order : Order) (found : Listing) : Type 0 where
   pub small : length found.table ≤ group_limit
 
 -- ---- the completion's end
-module _ (order : Order) (group_size limit : ℕ) (e : cells_fault order.n ≡ None) (f : order_fault order group_size ≡ None) where
+module _ (order : Order) (group_size limit : ℕ) (e : cells_fault order.n ≡ no_fault) (f : order_fault order group_size ≡ no_fault) where
   abbrev table : List Exchange
   table = table_of order group_size
 
@@ -91,7 +91,7 @@ listing-facts order list_size group_size found e =
     used : limit ≤ list_limit
     used = omega arith
 
-    go : cells_fault order.n ≡ None → order_fault order group_size ≡ None → (c : Completion) → completed table limit (generators_of order) ≡ c → listing_of table c ≡ accepted found → ListFacts order found
+    go : cells_fault order.n ≡ no_fault → order_fault order group_size ≡ no_fault → (c : Completion) → completed table limit (generators_of order) ≡ c → listing_of table c ≡ accepted found → ListFacts order found
     go p q (stopped number place) r x = accepted-refused x
     go p q (running s) r x =
         let y : ◌≡◌ {A = Listing} (record { rows = final_rows table s.rows; table = table; stored = length s.rows; sums = s.sums }) found = cc in

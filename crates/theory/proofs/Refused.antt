@@ -1,6 +1,8 @@
 -- What a refusal of a lent call may report (Specification 7.2): the last number, and how great its place can be. Assumes nothing.
+use Rattle.std.specs.declared.result.Result.TheVariants.{Err}
+use Rattle.definitions.specs.Refusals.{Fault, no_fault, fault_at}
 use Rattle.std.specs.Prelude.{if◌then◌else◌}
-use mathlib.Core.Path.{◌≡◌, refl, sym, subst, ap₂, ◌∙◌}
+use mathlib.Core.Path.{◌≡◌, refl, sym, subst, ap, ap₂, ◌∙◌}
 use mathlib.Core.Bool.{Bool, true, false}
 use mathlib.Core.Logic.{◌⊎◌, inl, inr}
 use mathlib.Core.List.{List, [], ◌∷◌, map}
@@ -9,9 +11,6 @@ use native.Mathlib.Nat.{mul-le-mul, mul-le-mul_left, suc-mul, zero-mul}
 use native.Mathlib.Omega.{arith}
 use lib.IntN.{ℤ}
 use lib.ListN.{length, length-append, length-map}
-use Rattle.definitions.specs.declared.Answer.TheVariants.{Refused}
-use Rattle.definitions.specs.declared.Fault.{Fault}
-use Rattle.definitions.specs.declared.Fault.TheVariants.{None, At}
 use Rattle.definitions.specs.Limits.{exchange_limit, generator_limit, group_limit, list_limit}
 use Rattle.definitions.specs.Vector.{Vector, padded}
 use Rattle.definitions.specs.Group.{Exchange, exchanged}
@@ -25,7 +24,7 @@ use Rattle.theory.proofs.Lists.{chunks-length}
 use Rattle.theory.proofs.Counting.{completed-near}
 use Rattle.theory.proofs.Sums.{sums-said}
 use Rattle.theory.proofs.Completion.{table-positive}
-use Rattle.theory.proofs.Faults.{Said, accepted-refused, said-end, said-first, said-if, said-where, tests-none, unless-refused}
+use Rattle.theory.proofs.Faults.{Said, accepted-refused, number_of, place_of, said-end, said-first, said-if, said-where, tests-none, unless-refused}
 use Rattle.theory.proofs.Sizes.{OrderSized, sizes-of-check, sizes-of-order, sizes-of-split}
 use Rattle.theory.proofs.Accepted.{Sized, admission-none, cells-none, order-generators, order-symmetric, table-small}
 use Rattle.theory.proofs.ListCall.{completed-stops}
@@ -114,7 +113,7 @@ admission-said order group_size fits last h =
     (λ g. said-end (Reported last))))
 
 -- an order that meets none of 5 to 11 has a group
-pub table-some : (order : Order) (group_size : ℕ) → cells_fault order.n ≡ None → order_fault order group_size ≡ None → 0 < length (table_of order group_size)
+pub table-some : (order : Order) (group_size : ℕ) → cells_fault order.n ≡ no_fault → order_fault order group_size ≡ no_fault → 0 < length (table_of order group_size)
 table-some order group_size e f = let G = order-generators order group_size f in table-positive (order-symmetric order group_size e f) G.0 G.1
 
 -- ---- List
@@ -133,7 +132,7 @@ module _ (order : Order) (list_size group_size : ℕ) where
   tests-said = admission-said order group_size (whole_rows order.n list_size) 13 (omega arith)
 
   -- 12 and 13
-  stop-reported : tests ≡ None → (number place : ℕ) → completed table limit (generators_of order) ≡ stopped number place → Reported 13 number place
+  stop-reported : tests ≡ no_fault → (number place : ℕ) → completed table limit (generators_of order) ≡ stopped number place → Reported 13 number place
   unfolding list_rows
   stop-reported e number place q =
       let A = admission-none order group_size _ e in
@@ -156,11 +155,11 @@ module _ (order : Order) (list_size group_size : ℕ) where
   unfolding listing listing_of
   list-reported number place e = go (unless-refused tests (listing_of table (completed table limit (generators_of order))) e)
     where
-      stops : tests ≡ None → (c : Completion) → completed table limit (generators_of order) ≡ c → listing_of table c ≡ refused number place → Reported 13 number place
+      stops : tests ≡ no_fault → (c : Completion) → completed table limit (generators_of order) ≡ c → listing_of table c ≡ refused number place → Reported 13 number place
       stops h (running s) q x = accepted-refused (sym x)
-      stops h (stopped a b) q x = let y : a ≡ number = cc in let z : b ≡ place = cc in reported-more (omega arith) y z (stop-reported h a b q)
+      stops h (stopped a b) q x = let y : a ≡ number = ap number_of x in let z : b ≡ place = ap place_of x in reported-more (omega arith) y z (stop-reported h a b q)
 
-      go : (tests ≡ At number place) ⊎ ((tests ≡ None) × (listing_of table (completed table limit (generators_of order)) ≡ refused number place)) → Reported 13 number place
+      go : (tests ≡ fault_at number place) ⊎ ((tests ≡ no_fault) × (listing_of table (completed table limit (generators_of order)) ≡ refused number place)) → Reported 13 number place
       go (inl x) = (subst (Said (Reported 13)) x tests-said).said
       go (inr x) = stops x.0 (completed table limit (generators_of order)) refl x.1
 
@@ -175,7 +174,7 @@ module _ (order : Order) (vector : List ℤ) (list_size group_size pieces_size :
   sizes-said = said-first _ (said-if 5 _ (omega arith)) (λ e. said-first _ (said-if 6 _ (omega arith)) (λ f. said-end (Reported 16)))
 
   -- 14 to 16
-  split-said : sizes ≡ None → (taken : Splitting) → Said (Reported 16) (split_fault vector pieces_size taken)
+  split-said : sizes ≡ no_fault → (taken : Splitting) → Said (Reported 16) (split_fault vector pieces_size taken)
   unfolding split_fault
   split-said e taken =
       let b = tests-none (cells_fault order.n) _ e in
@@ -190,18 +189,18 @@ module _ (order : Order) (vector : List ℤ) (list_size group_size pieces_size :
   unfolding parts parts_of
   split-reported number place e = go (unless-refused sizes (parts_of vector pieces_size (listing order list_size group_size)) e)
     where
-      after : sizes ≡ None → (o : Outcome Listing) → listing order list_size group_size ≡ o → parts_of vector pieces_size o ≡ refused number place → Reported 16 number place
-      after h (refused a b) q x = let y : a ≡ number = cc in let z : b ≡ place = cc in reported-more (omega arith) y z (list-reported order list_size group_size a b q)
+      after : sizes ≡ no_fault → (o : Outcome Listing) → listing order list_size group_size ≡ o → parts_of vector pieces_size o ≡ refused number place → Reported 16 number place
+      after h (Err r) q x = let y : r.number ≡ number = cc in let z : r.place ≡ place = cc in reported-more (omega arith) y z (list-reported order list_size group_size r.number r.place q)
       after h (accepted l) q x = pick (unless-refused (split_fault vector pieces_size taken) (accepted (record { listing = l; pieces = taken.pieces })) x)
         where
           taken : Splitting
           taken = splitting (placed_orbits 0 l.table l.rows) (padded vector)
 
-          pick : (split_fault vector pieces_size taken ≡ At number place) ⊎ ((split_fault vector pieces_size taken ≡ None) × (◌≡◌ {A = Outcome Parts} (accepted (record { listing = l; pieces = taken.pieces })) (refused number place))) → Reported 16 number place
+          pick : (split_fault vector pieces_size taken ≡ fault_at number place) ⊎ ((split_fault vector pieces_size taken ≡ no_fault) × (◌≡◌ {A = Outcome Parts} (accepted (record { listing = l; pieces = taken.pieces })) (refused number place))) → Reported 16 number place
           pick (inl f) = (subst (Said (Reported 16)) f (split-said h taken)).said
           pick (inr f) = let w = f.1 in accepted-refused (sym w)
 
-      go : (sizes ≡ At number place) ⊎ ((sizes ≡ None) × (parts_of vector pieces_size (listing order list_size group_size) ≡ refused number place)) → Reported 16 number place
+      go : (sizes ≡ fault_at number place) ⊎ ((sizes ≡ no_fault) × (parts_of vector pieces_size (listing order list_size group_size) ≡ refused number place)) → Reported 16 number place
       go (inl x) = (subst (Said (Reported 16)) x sizes-said).said
       go (inr x) = after x.0 (listing order list_size group_size) refl x.1
 
@@ -229,7 +228,7 @@ module _ (order : Order) (brought coefficients : List ℤ) (group_size : ℕ) wh
       (λ h. said-end (Reported 22)))
 
   -- 20 to 22
-  wholeness-said : rules_fault order brought coefficients group_size ≡ None → Said (Reported 22) (wholeness_fault (table_of order group_size) (generators_of order) rows)
+  wholeness-said : rules_fault order brought coefficients group_size ≡ no_fault → Said (Reported 22) (wholeness_fault (table_of order group_size) (generators_of order) rows)
   unfolding wholeness_fault rules_fault
   wholeness-said e =
       let a = tests-none (admission_fault order group_size (brought_fits order brought coefficients)) _ e in
@@ -242,31 +241,31 @@ module _ (order : Order) (brought coefficients : List ℤ) (group_size : ℕ) wh
       (λ e. said-end (Reported 22))))
 
   -- CHECK: what a refusal may report
-  pub check-reported : (number place : ℕ) → check_fault order brought coefficients group_size ≡ At number place → Reported 22 number place
+  pub check-reported : (number place : ℕ) → check_fault order brought coefficients group_size ≡ fault_at number place → Reported 22 number place
   unfolding check_fault
   check-reported number place e = (subst (Said (Reported 22)) e (said-first _ rules-said (λ h. said-first _ (wholeness-said h) (λ k. said-end (Reported 22))))).said
 
 -- ---- the answers: of each call, what it may report where its answer is a refusal
-pub list-answer-reported : (order : Order) (list_size group_size number place : ℕ) → (list_call order list_size group_size).answer ≡ Refused number place → Reported 22 number place
+pub list-answer-reported : (order : Order) (list_size group_size number place : ℕ) → (list_call order list_size group_size).answer ≡ refused number place → Reported 22 number place
 unfolding list_call list_end
 list-answer-reported order list_size group_size number place e = go (listing order list_size group_size) refl e
   where
-    go : (o : Outcome Listing) → listing order list_size group_size ≡ o → (list_end order.n list_size group_size o).answer ≡ Refused number place → Reported 22 number place
-    go (refused a b) q x = let y : a ≡ number = cc in let z : b ≡ place = cc in reported-more (omega arith) y z (list-reported order list_size group_size a b q)
+    go : (o : Outcome Listing) → listing order list_size group_size ≡ o → (list_end order.n list_size group_size o).answer ≡ refused number place → Reported 22 number place
+    go (Err r) q x = let y : r.number ≡ number = cc in let z : r.place ≡ place = cc in reported-more (omega arith) y z (list-reported order list_size group_size r.number r.place q)
     go (accepted found) q x = let z : ◌≡◌ {A = ℕ} 0 1 = cc in absurd (omega arith)
 
-pub split-answer-reported : (order : Order) (vector : List ℤ) (list_size group_size pieces_size number place : ℕ) → (split_call order vector list_size group_size pieces_size).answer ≡ Refused number place → Reported 22 number place
+pub split-answer-reported : (order : Order) (vector : List ℤ) (list_size group_size pieces_size number place : ℕ) → (split_call order vector list_size group_size pieces_size).answer ≡ refused number place → Reported 22 number place
 unfolding split_call split_end
 split-answer-reported order vector list_size group_size pieces_size number place e = go (parts order vector list_size group_size pieces_size) refl e
   where
-    go : (o : Outcome Parts) → parts order vector list_size group_size pieces_size ≡ o → (split_end order.n list_size group_size pieces_size o).answer ≡ Refused number place → Reported 22 number place
-    go (refused a b) q x = let y : a ≡ number = cc in let z : b ≡ place = cc in reported-more (omega arith) y z (split-reported order vector list_size group_size pieces_size a b q)
+    go : (o : Outcome Parts) → parts order vector list_size group_size pieces_size ≡ o → (split_end order.n list_size group_size pieces_size o).answer ≡ refused number place → Reported 22 number place
+    go (Err r) q x = let y : r.number ≡ number = cc in let z : r.place ≡ place = cc in reported-more (omega arith) y z (split-reported order vector list_size group_size pieces_size r.number r.place q)
     go (accepted found) q x = let z : ◌≡◌ {A = ℕ} 0 1 = cc in absurd (omega arith)
 
-pub check-answer-reported : (order : Order) (rows coefficients : List ℤ) (group_size number place : ℕ) → (check_call order rows coefficients group_size).answer ≡ Refused number place → Reported 22 number place
+pub check-answer-reported : (order : Order) (rows coefficients : List ℤ) (group_size number place : ℕ) → (check_call order rows coefficients group_size).answer ≡ refused number place → Reported 22 number place
 unfolding check_call check_end
 check-answer-reported order rows coefficients group_size number place e = go (check_fault order rows coefficients group_size) refl e
   where
-    go : (fault : Fault) → check_fault order rows coefficients group_size ≡ fault → (check_end group_size (length rows / order.n) (table_of order group_size) fault).answer ≡ Refused number place → Reported 22 number place
-    go (At a b) q x = let y : a ≡ number = cc in let z : b ≡ place = cc in reported-more (omega arith) y z (check-reported order rows coefficients group_size a b q)
-    go None q x = let z : ◌≡◌ {A = ℕ} 0 1 = cc in absurd (omega arith)
+    go : (fault : Fault) → check_fault order rows coefficients group_size ≡ fault → (check_end group_size (length rows / order.n) (table_of order group_size) fault).answer ≡ refused number place → Reported 22 number place
+    go (Err r) q x = let y : r.number ≡ number = cc in let z : r.place ≡ place = cc in reported-more (omega arith) y z (check-reported order rows coefficients group_size r.number r.place q)
+    go no_fault q x = let z : ◌≡◌ {A = ℕ} 0 1 = cc in absurd (omega arith)

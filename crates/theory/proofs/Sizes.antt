@@ -1,4 +1,5 @@
 -- What the tests of sizes say of what meets none (Specification 7.3). Assumes nothing.
+use Rattle.definitions.specs.Refusals.{no_fault}
 use mathlib.Core.Path.{◌≡◌, sym, ap, ◌∙◌}
 use mathlib.Core.Bool.{Bool, true, not, ◌&&◌, ◌||◌}
 use mathlib.Core.List.{List}
@@ -9,7 +10,6 @@ use borrow.Author.Tests.{eqb-true, leb-true, not-false}
 use lib.Dec.{eqb, leb}
 use lib.IntN.{ℤ}
 use lib.ListN.{length}
-use Rattle.definitions.specs.declared.Fault.TheVariants.{None}
 use Rattle.definitions.specs.Limits.{bare_limit, generator_limit, exchange_limit, list_limit, piece_width}
 use Rattle.definitions.specs.Lent.{Order, is_bare, whole_rows, whole_rows_up_to}
 use Rattle.definitions.specs.Refusals.{brought_fits, images_fit, order_fits, size_fault, split_size_fault}
@@ -71,7 +71,7 @@ order-sized order e =
     }
 
 -- 6
-pub sizes-of-order : (order : Order) (group_size : ℕ) (fits : Bool) → size_fault order group_size fits ≡ None → OrderSized order × (fits ≡ true)
+pub sizes-of-order : (order : Order) (group_size : ℕ) (fits : Bool) → size_fault order group_size fits ≡ no_fault → OrderSized order × (fits ≡ true)
 unfolding size_fault
 sizes-of-order order group_size fits e =
     let first : Bool = order_fits order && whole_rows order.n group_size in
@@ -79,7 +79,7 @@ sizes-of-order order group_size fits e =
     (order-sized order (and-true-left (order_fits order) (whole_rows order.n group_size) (and-true-left first fits all)), and-true-right first fits all)
 
 -- what 6 of a Split adds
-pub sizes-of-split : (n : ℕ) (vector : List ℤ) (pieces_size : ℕ) → split_size_fault n vector pieces_size ≡ None → length vector ≡ n
+pub sizes-of-split : (n : ℕ) (vector : List ℤ) (pieces_size : ℕ) → split_size_fault n vector pieces_size ≡ no_fault → length vector ≡ n
 unfolding split_size_fault
 sizes-of-split n vector pieces_size e =
     let both = not-false (eqb (length vector) n && whole_rows piece_width pieces_size) (if_none 6 _ e) in
@@ -93,7 +93,7 @@ pub record CheckSized (order : Order) (rows coefficients : List ℤ) : Type 0 wh
   pub one_each : length coefficients ≡ length rows / order.n * (length order.generators / order.n)
 
 pub sizes-of-check : (order : Order) (rows coefficients : List ℤ) (group_size : ℕ)
-    → size_fault order group_size (brought_fits order rows coefficients) ≡ None → CheckSized order rows coefficients
+    → size_fault order group_size (brought_fits order rows coefficients) ≡ no_fault → CheckSized order rows coefficients
 unfolding brought_fits
 sizes-of-check order rows coefficients group_size e =
     let brought : Bool = whole_rows_up_to list_limit order.n (length rows) in

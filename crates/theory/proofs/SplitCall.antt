@@ -1,5 +1,7 @@
 -- SPLIT (Specification 4.2, demand 2): the pieces add up to the vector, none opposes it in any cell, and 15 comes exactly when the vector is
 -- not in the lattice. Assumes nothing.
+use Rattle.std.specs.declared.result.Result.TheVariants.{Err}
+use Rattle.definitions.specs.Refusals.{Fault, no_fault, fault_at}
 use mathlib.Core.Path.{◌≡◌, refl, sym, ◌∙◌, ap, subst}
 use mathlib.Core.Logic.{◌⊎◌, inl, inr, ◌↔◌}
 use mathlib.Core.Bool.{Bool, true, false, not}
@@ -10,8 +12,6 @@ use lib.Dec.{leb}
 use lib.IntN.{ℤ, pos}
 use lib.ListN.{length, get_or}
 use native.Mathlib.Omega.{arith}
-use Rattle.definitions.specs.declared.Fault.{Fault}
-use Rattle.definitions.specs.declared.Fault.TheVariants.{None, At}
 use Rattle.definitions.specs.Limits.{cells, piece_width, split_limit}
 use Rattle.definitions.specs.Vector.{is_zero, padded}
 use Rattle.definitions.specs.Lattice.{InLattice}
@@ -35,7 +35,7 @@ use Rattle.theory.proofs.ListCall.{ListFacts, listing-facts}
 use Rattle.theory.proofs.Refused.{list-reported}
 
 -- the vector to split has `cells` cells
-split-length : (n : ℕ) (vector : List ℤ) (pieces_size : ℕ) → cells_fault n ≡ None → split_size_fault n vector pieces_size ≡ None → length (padded vector) ≡ cells
+split-length : (n : ℕ) (vector : List ℤ) (pieces_size : ℕ) → cells_fault n ≡ no_fault → split_size_fault n vector pieces_size ≡ no_fault → length (padded vector) ≡ cells
 split-length n vector pieces_size e f = padded-length vector (omega (arith, sizes-of-split n vector pieces_size f, (cells-none n e).most))
 
 -- the splitting of a vector over a listing
@@ -69,7 +69,7 @@ module _ (order : Order) (vector : List ℤ) (list_size group_size pieces_size :
   abbrev sizes : Fault
   sizes = split_sizes order vector pieces_size
 
-  sizes-length : sizes ≡ None → length (padded vector) ≡ cells
+  sizes-length : sizes ≡ no_fault → length (padded vector) ≡ cells
   sizes-length e =
       let a = tests-none (cells_fault order.n) _ e in
       let b = tests-none (split_size_fault order.n vector pieces_size) _ a.1 in
@@ -90,7 +90,7 @@ module _ (order : Order) (vector : List ℤ) (list_size group_size pieces_size :
       let a = unless-none sizes (parts_of vector pieces_size (listing order list_size group_size)) e in
       go (sizes-length a.0) (listing order list_size group_size) refl a.1
     where
-      ended : length (padded vector) ≡ cells → (l : Listing) → listing order list_size group_size ≡ accepted l → split_fault vector pieces_size (taken l vector) ≡ None → SplitMade (record { listing = l; pieces = (taken l vector).pieces })
+      ended : length (padded vector) ≡ cells → (l : Listing) → listing order list_size group_size ≡ accepted l → split_fault vector pieces_size (taken l vector) ≡ no_fault → SplitMade (record { listing = l; pieces = (taken l vector).pieces })
       ended p l q f =
           let a = tests-none _ _ f in
           let b = tests-none _ _ a.1 in
@@ -105,7 +105,7 @@ module _ (order : Order) (vector : List ℤ) (list_size group_size pieces_size :
           }
 
       go : length (padded vector) ≡ cells → (o : Outcome Listing) → listing order list_size group_size ≡ o → parts_of vector pieces_size o ≡ accepted found → SplitMade found
-      go p (refused number place) q x = accepted-refused x
+      go p (Err r) q x = accepted-refused x
       go p (accepted l) q x =
           let b = unless-none (split_fault vector pieces_size (taken l vector)) (accepted (record { listing = l; pieces = (taken l vector).pieces })) x in
           let y : ◌≡◌ {A = Parts} (record { listing = l; pieces = (taken l vector).pieces }) found = (let w = b.1 in cc) in
@@ -140,7 +140,7 @@ module _ (order : Order) (vector : List ℤ) (list_size group_size pieces_size :
       sizes-number : Said Not15 sizes
       sizes-number = said-first _ (said-if 5 _ (λ x. omega arith)) (λ e. said-first _ (said-if 6 _ (λ x. omega arith)) (λ f. said-end Not15))
 
-      met : length (padded vector) ≡ cells → (l : Listing) → listing order list_size group_size ≡ accepted l → split_fault vector pieces_size (taken l vector) ≡ At 15 0 → ⊥
+      met : length (padded vector) ≡ cells → (l : Listing) → listing order list_size group_size ≡ accepted l → split_fault vector pieces_size (taken l vector) ≡ fault_at 15 0 → ⊥
       met p l q f = last (is_zero (taken l vector).rest) refl ((rest-lattice order l (listing-facts order list_size group_size l q) vector p).1 h)
         where
           last : (b : Bool) → is_zero (taken l vector).rest ≡ b → is_zero (taken l vector).rest ≡ true → ⊥
@@ -152,19 +152,19 @@ module _ (order : Order) (vector : List ℤ) (list_size group_size pieces_size :
                   (said-first _ (said-none Not15) (λ e. said-first _ (said-if 16 _ (λ m. omega arith)) (λ f. said-end Not15)))
 
       go : length (padded vector) ≡ cells → (o : Outcome Listing) → listing order list_size group_size ≡ o → parts_of vector pieces_size o ≡ refused 15 0 → ⊥
-      go p (refused number place) q x = let y : number ≡ 15 = cc in omega (arith, (list-reported order list_size group_size number place q).own (omega arith))
+      go p (Err r) q x = let y : r.number ≡ 15 = cc in omega (arith, (list-reported order list_size group_size r.number r.place q).own (omega arith))
       go p (accepted l) q x = pick (unless-refused (split_fault vector pieces_size (taken l vector)) (accepted (record { listing = l; pieces = (taken l vector).pieces })) x)
         where
-          pick : (split_fault vector pieces_size (taken l vector) ≡ At 15 0) ⊎ ((split_fault vector pieces_size (taken l vector) ≡ None) × (◌≡◌ {A = Outcome Parts} (accepted (record { listing = l; pieces = (taken l vector).pieces })) (refused 15 0))) → ⊥
+          pick : (split_fault vector pieces_size (taken l vector) ≡ fault_at 15 0) ⊎ ((split_fault vector pieces_size (taken l vector) ≡ no_fault) × (◌≡◌ {A = Outcome Parts} (accepted (record { listing = l; pieces = (taken l vector).pieces })) (refused 15 0))) → ⊥
           pick (inl f) = met p l q f
           pick (inr f) = let w = f.1 in accepted-refused (sym w)
 
-      start : (sizes ≡ At 15 0) ⊎ ((sizes ≡ None) × (parts_of vector pieces_size (listing order list_size group_size) ≡ refused 15 0)) → ⊥
+      start : (sizes ≡ fault_at 15 0) ⊎ ((sizes ≡ no_fault) × (parts_of vector pieces_size (listing order list_size group_size) ≡ refused 15 0)) → ⊥
       start (inl x) = other-number sizes sizes-number x
       start (inr x) = go (sizes-length x.0) (listing order list_size group_size) refl x.1
 
   -- AND EXACTLY THEN, where the sizes and 14 are not met and the List is accepted
-  pub split-exactly : (found : Listing) → split_sizes order vector pieces_size ≡ None → listing order list_size group_size ≡ accepted found → fault_where 14 (length vector) (λ p. is_past split_limit (get_or vector p (pos 0))) ≡ None
+  pub split-exactly : (found : Listing) → split_sizes order vector pieces_size ≡ no_fault → listing order list_size group_size ≡ accepted found → fault_where 14 (length vector) (λ p. is_past split_limit (get_or vector p (pos 0))) ≡ no_fault
       → (parts order vector list_size group_size pieces_size ≡ refused 15 0) ↔ (¬ (InLattice (generators_of order) (padded vector)))
   unfolding parts parts_of split_fault unless_fault first_fault fault_if
   split-exactly found s q f = (split-outside, λ out. here (is_zero (taken found vector).rest) refl out)

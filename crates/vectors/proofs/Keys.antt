@@ -12,6 +12,7 @@ use lib.IntN.{ℤ, pos, negsuc, neg_ℤ}
 use lib.ListN.{length, drop, length-drop, drop_of_length-le}
 use lib.Pow.{high, low, pow_mono}
 use borrow.Author.Tests.{eq-eqb, lt-ltb}
+use Rattle.std.proofs.Common.{to_z-of_z}
 use Rattle.definitions.specs.Limits.{cells}
 use Rattle.definitions.specs.Vector.{Vector, below, negative}
 use Rattle.theory.proofs.Below.{◌⊑◌, head-below, tail-below, ⊑-length, ⊑-negative}
@@ -108,9 +109,9 @@ key_fits v h =
     (halves-fit (positives (negative v)) (positives v) (half-small (negative v) (omega (arith, length-negative v))) (half-small v h))
 
 -- no cell
-pub key-none : (v : Vector) (i : ℕ) → length v ≤ i → 0 ≡ key (drop i v)
+pub key-none : (v : Vector) → length v ≤ cells → key (drop cells v) ≡ 0
 unfolding key
-key-none v i h = rw (drop_of_length-le v h)
+key-none v h = rw (drop_of_length-le v {i = cells} h)
 
 -- one cell more, in front of those from i on
 module _ (v : Vector) (i : ℕ) (some : 0 < i) (long : length v ≡ cells) (inside : i ≤ cells) where
@@ -120,3 +121,5 @@ module _ (v : Vector) (i : ℕ) (some : 0 < i) (long : length v ≡ cells) (insi
 
   pub cell-fits : key (drop i v) * 2 + side (cell_at v (i - 1)) < 2 ^ 64
   cell-fits = rw key-cell (key_fits (drop (i - 1) v) (omega (arith, length-drop (i - 1) v)))
+
+pub ruleset key_turn = (key-none, key-cell, cell-fits, to_z-of_z)

@@ -6,3 +6,4 @@ pub mod Support
 pub mod Keys
 pub mod Rows
 pub mod Searches
+pub mod Arrays

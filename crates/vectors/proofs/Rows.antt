@@ -7,13 +7,14 @@ use Prim.Native.Nat.{ℕ, ◌+◌, ◌-◌, ◌*◌, ◌/◌, ◌≤◌, ◌<◌
 use native.Mathlib.Nat.{div-mul-le_self}
 use native.Mathlib.Omega.{arith}
 use lib.IntN.{ℤ}
-use lib.ListN.{length, get_or, take, drop}
+use lib.ListN.{length, length-set, get_or, take, drop}
 use Rattle.definitions.specs.Limits.{cells}
 use Rattle.definitions.specs.Vector.{padded, within}
 use Rattle.definitions.specs.Group.{Exchange, is_exchange}
 use Rattle.definitions.specs.Lent.{rows_of, vectors_of}
 use Rattle.theory.proofs.Lists.{chunks-at, chunks-length, get_d_map, mem-drop, mem-take, part-row, row-end}
 use Rattle.theory.proofs.Members.{each_append, each_member, each_of, place-member}
+use Rattle.theory.proofs.Turns.{blank_turn, blank-end}
 use Rattle.theory.proofs.Accepted.{zeros_within}
 use Rattle.theory.proofs.Bounds.{each_within, within-each}
 use Rattle.theory.proofs.Exchanges.{AllExchanges, cell_at, valid-of}
@@ -47,6 +48,8 @@ vectors-at n p numbers h =
     let l : p < length (rows_of n numbers) = omega (arith, rows-count n numbers) in
     get_d_map padded (rows_of n numbers) p [] [] l ∙ ap padded (rows_at n p numbers h)
 
+pub ruleset row_is = (vectors-at)
+
 -- the limit that the numbers of an area keep is kept by each of its rows
 pub vectors-within : (limit n p : ℕ) (numbers : List ℤ) → p < length numbers / n → within limit numbers ≡ true → within limit (get_or (vectors_of n numbers) p []) ≡ true
 unfolding padded
@@ -55,6 +58,9 @@ vectors-within limit n p numbers h e =
     let part = take n (drop (p * n) numbers) in
     let row = each_of part (λ x m. each_member all (mem-drop (p * n) x numbers (mem-take n x (drop (p * n) numbers) m))) in
     rw (vectors-at n p numbers h) (each_within limit (each_append row (zeros_within limit (cells - length part))))
+
+-- an area is cleared number by number
+pub ruleset clear_turn = (blank_turn, blank-end, length-set)
 
 -- an exchange names cells of a vector
 pub names-cells : (n : ℕ) (s : Exchange) → n ≤ cells → is_exchange n s ≡ true → NamesCells s

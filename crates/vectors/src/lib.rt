@@ -15,6 +15,7 @@ ghost use Rattle.vectors.specs.Keys.{fits, key, side, turned};
 ghost use Rattle.vectors.specs.Support.{below_on_support, cell_on_support, cell_outside, outside_support};
 
 use definitions::limits::CELLS;
+use std::array;
 
 // One more than the greatest number that one half of a key holds.
 const HALF: u64 = 4_294_967_296;
@@ -23,11 +24,11 @@ const HALF: u64 = 4_294_967_296;
 pub fn magnitude(a: i32) -> u32
     ensures counted { result ≡ nat_abs a }
 {
-    let b = a as i64;
-    if b < 0 { (0 - b) as u32 } else { b as u32 }
+    a.unsigned_abs()
 }
 
 // Whether `a` lies below `b`, of one cell: between zero and `b` (Specification 2.3).
+#[tactic(auto, unfolding(definitions::specs::Vector::cell_below))]
 pub fn cell_below(a: i32, b: i32) -> bool
     ensures told { result ≡ cell_below a b }
 {
@@ -35,6 +36,7 @@ pub fn cell_below(a: i32, b: i32) -> bool
 }
 
 // Whether `a` is zero if `b` is, of one cell.
+#[tactic(auto, unfolding(crate::specs::Support::cell_outside))]
 fn cell_within_support(a: i32, b: i32) -> bool
     ensures told { result ≡ not (cell_outside a b) }
 {
@@ -46,16 +48,11 @@ fn cell_within_support(a: i32, b: i32) -> bool
 fn within_support(u: [i32; CELLS], v: [i32; CELLS]) -> bool
     ensures told { result ≡ not (outside_support u v) }
 {
-    let mut within = true;
-    let mut cell = 0;
-    while cell < CELLS {
-        within = within & cell_within_support(u[cell], v[cell]);
-        cell += 1;
-    }
-    within
+    u.iter().zip(&v).fold(true, |within, (a, b)| within & cell_within_support(*a, *b))
 }
 
 // Whether `a` lies below `b` if `b` is not zero, of one cell.
+#[tactic(auto, unfolding(crate::specs::Support::cell_on_support))]
 fn cell_on_support(a: i32, b: i32) -> bool
     ensures told { result ≡ cell_on_support a b }
 {
@@ -66,41 +63,28 @@ fn cell_on_support(a: i32, b: i32) -> bool
 fn below_on_support(u: [i32; CELLS], v: [i32; CELLS]) -> bool
     ensures told { result ≡ below_on_support u v }
 {
-    let mut lies = true;
-    let mut i = 0;
-    while i < CELLS {
-        lies = lies & cell_on_support(u[i], v[i]);
-        i += 1;
-    }
-    lies
+    u.iter()
+        .zip(&v)
+        .fold(true, |lies, (a, b)| lies & cell_on_support(*a, *b))
 }
 
 // Whether `u` lies below `v` (Specification 2.3): the cells where `v` is zero are looked at first.
+#[tactic(auto, using(crate::proofs::Support::below_parts))]
 pub fn below(u: [i32; CELLS], v: [i32; CELLS]) -> bool
     ensures told { result ≡ below u v }
 {
-    if within_support(u, v) {
-        below_on_support(u, v)
-    } else {
-        false
-    }
+    within_support(u, v) && below_on_support(u, v)
 }
 
 // Whether no cell of `v` is past `limit` in absolute value.
 pub fn within(limit: u32, v: [i32; CELLS]) -> bool
     ensures told { result ≡ within limit v }
 {
-    let mut i = 0;
-    while i < CELLS {
-        if limit < magnitude(v[i]) {
-            return false;
-        }
-        i += 1;
-    }
-    true
+    v.iter().all(|a| magnitude(*a) <= limit)
 }
 
 // Whether `v` is the zero vector.
+#[tactic(auto, unfolding(definitions::specs::Vector::is_zero))]
 pub fn is_zero(v: [i32; CELLS]) -> bool
     ensures told { result ≡ is_zero v }
 {
@@ -108,72 +92,53 @@ pub fn is_zero(v: [i32; CELLS]) -> bool
 }
 
 // The weight of `v`: the sum of the absolute values (Specification 2.1).
+#[tactic(auto, using(crate::proofs::Kit::weight_turn))]
 pub fn weight(v: [i32; CELLS]) -> u64
     ensures counted { result ≡ weight v }
 {
     let mut sum: u64 = 0;
-    let mut i = 0;
-    while i < CELLS {
-        sum += magnitude(v[i]) as u64;
-        i += 1;
+    for a in v {
+        sum += u64::from(magnitude(a));
     }
     sum
 }
 
 // The degree of `v`: the larger of the sum of the positive entries and that of the negative entries without their signs
 // (Specification 2.1).
+#[tactic(auto, using(crate::proofs::Kit::sums_end), unfolding(definitions::specs::Vector::degree))]
 pub fn degree(v: [i32; CELLS]) -> u64
     ensures counted { result ≡ degree v }
 {
     let mut positive_sum: u64 = 0;
     let mut negative_sum: u64 = 0;
-    let mut i = 0;
-    while i < CELLS {
-        let a = v[i];
-        let part = magnitude(a) as u64;
+    for a in v {
+        let part = u64::from(magnitude(a));
         if 0 <= a {
             positive_sum += part;
         } else {
             negative_sum += part;
         }
-        i += 1;
     }
-    if positive_sum < negative_sum {
-        negative_sum
-    } else {
-        positive_sum
-    }
+    positive_sum.max(negative_sum)
 }
 
 // Whether `u` and `v` are the same vector.
+#[tactic(auto, using(crate::proofs::Kit::equal_is))]
 pub fn equal(u: [i32; CELLS], v: [i32; CELLS]) -> bool
     ensures told { result ≡ equal u v }
 {
-    let mut i = 0;
-    while i < CELLS {
-        if u[i] != v[i] {
-            return false;
-        }
-        i += 1;
-    }
-    true
+    u == v
 }
 
 // Whether `u` is lexicographically greater than `v` (Specification 2.1).
+#[tactic(auto, using(crate::proofs::Kit::greater_turn))]
 pub fn greater(u: [i32; CELLS], v: [i32; CELLS]) -> bool
     ensures told { result ≡ greater u v }
 {
-    let mut i = 0;
-    while i < CELLS {
-        let a = u[i];
-        let b = v[i];
-        if b < a {
-            return true;
+    for i in 0..CELLS {
+        if u[i] != v[i] {
+            return u[i] > v[i];
         }
-        if a < b {
-            return false;
-        }
-        i += 1;
     }
     false
 }
@@ -184,13 +149,7 @@ pub fn plus(u: [i32; CELLS], v: [i32; CELLS]) -> [i32; CELLS]
     requires second_bounded { within headroom v ≡ true }
     ensures made { result ≡ plus u v }
 {
-    let mut w = [0; CELLS];
-    let mut i = 0;
-    while i < CELLS {
-        w[i] = u[i] + v[i];
-        i += 1;
-    }
-    w
+    array::from_fn(|i| u[i] + v[i])
 }
 
 // The negative of `v`.
@@ -198,16 +157,11 @@ pub fn negative(v: [i32; CELLS]) -> [i32; CELLS]
     requires bounded { within headroom v ≡ true }
     ensures made { result ≡ negative v }
 {
-    let mut w = [0; CELLS];
-    let mut i = 0;
-    while i < CELLS {
-        w[i] = 0 - v[i];
-        i += 1;
-    }
-    w
+    array::from_fn(|i| -v[i])
 }
 
 // The difference of `u` and `v`.
+#[tactic(auto, using(crate::proofs::Kit::negative_within), unfolding(definitions::specs::Vector::minus))]
 pub fn minus(u: [i32; CELLS], v: [i32; CELLS]) -> [i32; CELLS]
     requires first_bounded { within headroom u ≡ true }
     requires second_bounded { within headroom v ≡ true }
@@ -217,31 +171,27 @@ pub fn minus(u: [i32; CELLS], v: [i32; CELLS]) -> [i32; CELLS]
 }
 
 // `v` exchanged by `s`: cell j is cell s(j) of `v`, and the cells past `s` stay (Specification 2.5).
+#[tactic(auto, using(crate::proofs::Kit::exchange_turn))]
 pub fn exchange(v: [i32; CELLS], s: &[u8]) -> [i32; CELLS]
     requires names { NamesCells s.now }
     ensures made { result ≡ exchanged s.now v }
 {
     let mut w = v;
-    let mut j = 0;
-    while j < s.len() {
+    for j in 0..s.len() {
         let k = s[j] as usize;
         w[j] = v[k - 1];
-        j += 1;
     }
     w
 }
 
 // The `n` numbers of an area from `at` on, as a vector.
+#[tactic(auto, using(crate::proofs::Kit::padded_front))]
 pub fn load(area: &[i32], at: usize, n: usize) -> [i32; CELLS]
     requires row { (n ≤ cells) × (at + n ≤ length area.now) }
     ensures made { result ≡ padded (take n (drop at area.now)) }
 {
     let mut w = [0; CELLS];
-    let mut j = 0;
-    while j < n {
-        w[j] = area[at + j];
-        j += 1;
-    }
+    w[..n].copy_from_slice(&area[at..at + n]);
     w
 }
 
@@ -250,11 +200,7 @@ pub fn store(area: &mut [i32], at: usize, n: usize, v: [i32; CELLS])
     requires row { (n ≤ cells) × (at + n ≤ length area.old) }
     ensures stored { area.new ≡ paste area.old at v n }
 {
-    let mut j = 0;
-    while j < n {
-        area[at + j] = v[j];
-        j += 1;
-    }
+    area[at..at + n].copy_from_slice(&v[..n]);
 }
 
 // Whether `a` and `b` do not have opposite signs.
@@ -271,18 +217,18 @@ pub fn same_side(a: i32, b: i32) -> bool
 }
 
 // The greatest number up to `bound` for which that multiple of `a` lies below `b` (Specification 4.1).
+#[tactic(auto, unfolding(definitions::specs::Split::cell_times))]
 pub fn cell_times(bound: u64, a: i32, b: i32) -> u64
     ensures counted { result ≡ cell_times bound a b }
 {
-    let part = magnitude(a) as u64;
+    let part = u64::from(magnitude(a));
     if part == 0 {
         return bound;
     }
     if !same_side(a, b) {
         return 0;
     }
-    let quotient = magnitude(b) as u64 / part;
-    if bound < quotient { bound } else { quotient }
+    bound.min(u64::from(magnitude(b)) / part)
 }
 
 // The greatest number for which that multiple of `u` lies below `v`; for `u` zero, the weight of `v` (Specification
@@ -290,17 +236,13 @@ pub fn cell_times(bound: u64, a: i32, b: i32) -> u64
 pub fn times(u: [i32; CELLS], v: [i32; CELLS]) -> u64
     ensures counted { result ≡ times u v }
 {
-    let mut bound = weight(v);
-    let mut i = 0;
-    while i < CELLS {
-        let next = cell_times(bound, u[i], v[i]);
-        bound = next;
-        i += 1;
-    }
-    bound
+    u.iter()
+        .zip(&v)
+        .fold(weight(v), |bound, (a, b)| cell_times(bound, *a, *b))
 }
 
 // Row `p` of an area, as a vector.
+#[tactic(auto, using(crate::proofs::Rows::row_is))]
 pub fn vector_at(area: &[i32], n: usize, p: usize) -> [i32; CELLS]
     requires row { (n ≤ cells) × (p < length area.now / n) }
     ensures made { result ≡ get_or (vectors_in n area) p [] }
@@ -313,40 +255,21 @@ pub fn is_row(v: [i32; CELLS], area: &[i32], n: usize) -> bool
     requires cells { (1 ≤ n) × (n ≤ cells) }
     ensures told { result ≡ is_member v (vectors_in n area) }
 {
-    let count = area.len() / n;
-    let mut p = 0;
-    while p < count {
-        if equal(vector_at(area, n, p), v) {
-            return true;
-        }
-        p += 1;
-    }
-    false
+    (0..area.len() / n).any(|p| equal(vector_at(area, n, p), v))
 }
 
-// Sets the numbers from `at` on to zero (Specification 7.4).
-pub fn clear(area: &mut [i32], at: usize)
-    ensures cleared { area.new ≡ cleared_from (pos 0) at area.old }
+// Sets the numbers of an area from `at` on to zero (Specification 7.4).
+#[tactic(auto, using(crate::proofs::Rows::clear_turn))]
+pub fn clear<T: Copy>(area: &mut [T], at: usize, zero: T)
+    ensures cleared { area.new ≡ cleared_from zero at area.old }
 {
-    let mut i = at;
-    while i < area.len() {
-        area[i] = 0;
-        i += 1;
-    }
-}
-
-// Sets the bytes from `at` on to zero (Specification 7.4).
-pub fn clear_bytes(area: &mut [u8], at: usize)
-    ensures cleared { area.new ≡ cleared_from 0 at area.old }
-{
-    let mut i = at;
-    while i < area.len() {
-        area[i] = 0;
-        i += 1;
+    for i in at..area.len() {
+        area[i] = zero;
     }
 }
 
 // The bit for the sign of a cell: in the lower half of a key for a positive cell, in the upper half for a negative one.
+#[tactic(auto, unfolding(crate::specs::Keys::side))]
 fn side(a: i32) -> u64
     ensures made { result ≡ side a }
 {
@@ -360,13 +283,12 @@ fn side(a: i32) -> u64
 }
 
 // The key of `v`: a bit for each positive cell, and one for each negative cell.
+#[tactic(auto, using(crate::proofs::Keys::key_turn))]
 pub fn key(v: [i32; CELLS]) -> u64
     ensures made { result ≡ key v }
 {
     let mut sum: u64 = 0;
-    let mut i = CELLS;
-    while 0 < i {
-        i -= 1;
+    for i in (0..CELLS).rev() {
         sum = sum * 2 + side(v[i]);
     }
     sum

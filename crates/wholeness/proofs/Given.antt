@@ -1,16 +1,15 @@
 -- What a brought list gives to its tests: the area of its rows, and the limits that they keep. Assumes nothing.
 use mathlib.Core.Path.{◌≡◌, sym, ◌∙◌, ap, subst}
 use mathlib.Core.Bool.{true}
-use mathlib.Core.List.{List, [], ◌∷◌, ◌++◌, map}
-use Prim.Native.Nat.{ℕ, ◌+◌, ◌-◌, ◌*◌, ◌/◌, ◌%◌, ◌≤◌, ◌<◌}
-use native.Mathlib.Nat.{div-mul-le_self, div-add-mod', mul-le-mul}
-use native.Mathlib.Numerals.{add-one}
+use mathlib.Core.List.{List, [], ◌∷◌, map}
+use Prim.Native.Nat.{ℕ, ◌-◌, ◌*◌, ◌/◌, ◌%◌, ◌≤◌}
+use native.Mathlib.Nat.{div-mul-le_self, div-add-mod'}
 use native.Mathlib.Omega.{arith}
 use borrow.Author.Tests.{eqb-true}
 use lib.IntN.{ℤ, pos}
-use lib.ListN.{length, get_or, take, replicate}
-use lib.Seq.{take_all, take-suc, take-append_seam}
-use Rattle.definitions.specs.Limits.{cells, entry_limit, group_limit, list_limit}
+use lib.ListN.{length, replicate}
+use lib.Seq.{take_all, take-append_seam}
+use Rattle.definitions.specs.Limits.{cells, entry_limit}
 use Rattle.definitions.specs.Lists.{concat}
 use Rattle.definitions.specs.Vector.{Vector, padded, within}
 use Rattle.definitions.specs.Orbit.{orbits}
@@ -47,12 +46,6 @@ pub rows_same : (n k : ℕ) (rows : List ℤ) → k ≡ length rows / n → rows
 unfolding vectors_of rows_of
 rows_same n k rows e = ap (λ (m : ℕ). rows_at n m rows) e
 
--- one row more
-pub one_more : (rows : List Vector) (r : ℕ) (row : Vector) → r < length rows → row ≡ get_or rows r []
-    → take r rows ++ row ∷ [] ≡ take (r + 1) rows
-one_more rows r row h e =
-    ap (λ (v : Vector). take r rows ++ v ∷ []) e ∙ sym (take-suc rows r [] h) ∙ ap (λ (k : ℕ). take k rows) (sym (add-one r))
-
 module _ {shape : Shape} {table : List ℕ} {rows : List ℤ} (B : Brought shape table rows) where
   rows-within : Within entry_limit rows
   unfolding vectors_of
@@ -67,10 +60,6 @@ module _ {shape : Shape} {table : List ℕ} {rows : List ℤ} (B : Brought shape
   -- the area of all rows
   pub area_in : Area shape.n (length rows / shape.n) rows
   area_in = record { holds = div-mul-le_self (length rows) shape.n; limited = rows-limited }
-
-  -- marks for all rows and all positions suffice
-  pub marks-room : {size : ℕ} → list_limit * group_limit ≤ size → length rows / shape.n * shape.g ≤ size
-  marks-room h = omega (arith, mul-le-mul B.few B.small, h)
 
 -- the rows, of which there are k, with their marks and keys
 module _ {shape : Shape} {table : List ℕ} {rows : List ℤ} {marks keys : List ℕ} (R : Ready shape table rows marks keys) (k : ℕ)

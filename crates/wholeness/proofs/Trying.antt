@@ -1,5 +1,6 @@
 -- The sums over the brought rows, one after the other: those that are left decide refusal 21 as all do (Specification 5.1), and those
 -- before them have remainder zero. Assumes nothing.
+use Rattle.definitions.specs.Refusals.{Fault, no_fault, fault_at}
 use mathlib.Core.Path.{◌≡◌, refl, sym, ◌∙◌, ap, subst}
 use mathlib.Core.Bool.{true, false}
 use mathlib.Core.List.{List}
@@ -8,8 +9,6 @@ use native.Mathlib.Omega.{arith}
 use borrow.Author.Tests.{le-leb, lt-leb}
 use lib.IntN.{ℤ}
 use lib.ListN.{length, get_or}
-use Rattle.definitions.specs.declared.Fault.{Fault}
-use Rattle.definitions.specs.declared.Fault.TheVariants.{None, At}
 use Rattle.definitions.specs.Limits.{entry_limit, list_limit}
 use Rattle.definitions.specs.Vector.{Vector, is_zero}
 use Rattle.definitions.specs.Group.{Exchange}
@@ -34,7 +33,7 @@ use Rattle.wholeness.specs.Lists.{Brought, Ready, tried_fault}
 use Rattle.wholeness.proofs.Given.{rows-ready, rows_same}
 
 -- no sum is left
-sums-over : (table : List Exchange) (fuel : ℕ) (s : Defined.State) → is_finished s ≡ true → sums_fault table fuel s ≡ None
+sums-over : (table : List Exchange) (fuel : ℕ) (s : Defined.State) → is_finished s ≡ true → sums_fault table fuel s ≡ no_fault
 unfolding sums_fault
 sums-over table zero s e = refl
 sums-over table (suc fuel) s e = simp e
@@ -51,7 +50,7 @@ module _ (table : List Exchange) (fuel : ℕ) (s : Defined.State) where
   sums_next e z = simp (e, z)
 
   -- it is not
-  sums-here : is_finished s ≡ false → is_zero left-of ≡ false → sums_fault table (suc fuel) s ≡ At 21 (s.sums + 1)
+  sums-here : is_finished s ≡ false → is_zero left-of ≡ false → sums_fault table (suc fuel) s ≡ fault_at 21 (s.sums + 1)
   unfolding sums_fault
   sums-here e z = simp (e, z)
 
@@ -104,7 +103,7 @@ module _ {shape : Shape} {table : List ℕ} {rows : List ℤ} (B : Brought shape
     rows-held = rows_same shape.n s.stored rows T.held
 
     -- no sum is left
-    pub trying-end : length rows / shape.n ≤ s.i → None ≡ fault
+    pub trying-end : length rows / shape.n ≤ s.i → no_fault ≡ fault
     unfolding is_finished
     trying-end h =
         let over = le-leb (length vs) s.i (omega (arith, counted-rows)) in
@@ -161,7 +160,7 @@ module _ {shape : Shape} {table : List ℕ} {rows : List ℤ} (B : Brought shape
       is-rest = ap (λ (l : List Vector). is_zero (remainder G l (sum_at G (state_of s l)))) (sym rows-held)
 
       -- is not zero
-      pub trying-fault : is_zero (remainder_in shape table rows s) ≡ false → At 21 (s.sums + 1) ≡ fault
+      pub trying-fault : is_zero (remainder_in shape table rows s) ≡ false → fault_at 21 (s.sums + 1) ≡ fault
       trying-fault z = sym (open-test ∙ sums-here G (all - (s.sums + 1)) (state_of s vs) open-sum (is-rest ∙ z))
 
       -- is zero: on to t

@@ -1,6 +1,6 @@
 -- A list that is brought to a Check and meets none of the tests before 20 (Specification 5.1). Assumes nothing.
+use Rattle.definitions.specs.Refusals.{Fault}
 use Rattle.std.specs.Prelude.{◌≡◌, true, not, List, [], ◌∷◌, ℕ, ◌*◌, ◌/◌, ◌≤◌, ◌<◌, ℤ, length, get_or}
-use Rattle.definitions.specs.declared.Fault.{Fault}
 use Rattle.definitions.specs.Limits.{entry_limit, group_limit, list_limit}
 use Rattle.definitions.specs.Vector.{is_zero}
 use Rattle.definitions.specs.Orbit.{orbits}

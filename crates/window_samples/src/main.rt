@@ -8,8 +8,8 @@
 ghost use Rattle.std.specs.Prelude.{◌≤◌, length};
 ghost use Rattle.definitions.specs.Limits.{cells};
 
-use definitions::Run;
 use definitions::limits::{CONTINGENCY_LIMIT, FIGURES_WIDTH, WINDOW_LIMIT};
+use definitions::{Refusal, Run};
 use sample_texts::{show_area, show_group, show_head};
 use windows::window;
 
@@ -22,21 +22,15 @@ const NO_IMAGES: [i64; 0] = [];
 // ---- printing
 
 // Prints an answer.
-fn show_run(run: Run) {
+fn show_run(run: Result<Run, Refusal>) {
     match run {
-        Run::Answered {
-            records,
-            rows,
-            members,
-            stored,
-            sums,
-        } => {
-            let count = [records];
-            let counts = [rows, members, stored, sums];
+        Ok(run) => {
+            let count = [run.records];
+            let counts = [run.rows, run.members, run.stored, run.sums];
             show_head(b"RUN", &count);
             show_head(b"MOVES", &counts);
         }
-        Run::Refused { number, place } => {
+        Err(Refusal { number, place }) => {
             let counts = [number, place];
             show_head(b"REFUSED", &counts);
         }

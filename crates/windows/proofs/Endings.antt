@@ -1,4 +1,6 @@
 -- How a run ends, once its list is there (Specification 3.9 and 7.4). Assumes nothing.
+use Rattle.definitions.specs.Refusals.{Outcome}
+use Rattle.definitions.specs.Refusals.{no_fault, fault_at}
 use mathlib.Core.Path.{◌≡◌, refl, sym, ap, ap₂, ◌∙◌}
 use mathlib.Core.Bool.{true, false, ◌&&◌}
 use mathlib.Core.List.{List, []}
@@ -9,9 +11,7 @@ use borrow.Author.Tests.{eq-eqb, eqb-true, leb-true, ne_eqb, not-false}
 use lib.Dec.{eqb, leb}
 use lib.IntN.{ℤ, pos}
 use lib.ListN.{length, get_or, replicate}
-use Rattle.definitions.specs.declared.Fault.TheVariants.{None, At}
 use Rattle.definitions.specs.declared.Run.{Run}
-use Rattle.definitions.specs.declared.Run.TheVariants.{Answered, Refused}
 use Rattle.definitions.specs.declared.View.{View}
 use Rattle.definitions.specs.Limits.{cells, record_width, window_limit}
 use Rattle.definitions.specs.Lists.{concat}
@@ -90,17 +90,17 @@ chain_fits_lem view start records answers e =
 -- a refusal that no answers come before
 pub refused-ends : (room : Room) (number place : ℕ) (before : List ℤ) {list : List ℤ} {group : List ℕ} {answers : List ℤ} → length before ≡ room.answers
     → list ≡ filled (pos 0) room.list [] → group ≡ filled 0 room.group [] → answers ≡ cleared_from (pos 0) 0 before
-    → WindowEnds (window_refused room number place []) (Refused number place) list group answers
+    → WindowEnds (window_refused room number place []) (refused number place) list group answers
 unfolding window_refused concat
 refused-ends room number place before size p q r = record { answer_is = refl; list_holds = p; group_holds = q; answers_hold = r ∙ ap (λ (k : ℕ). filled (pos 0) k []) size }
 
 -- 6 and 14, once the List has ended
 module _ (n : ℕ) (chain : Chain) (room : Room) (found : Listing) where
-  pub tests-met : {number place : ℕ} → chain_fault n chain room.answers ≡ At number place → window_refused room number place [] ≡ window_of n chain room (accepted found)
+  pub tests-met : {number place : ℕ} → chain_fault n chain room.answers ≡ fault_at number place → window_refused room number place [] ≡ window_of n chain room (accepted found)
   unfolding window_of drawn_end
   tests-met e = rw e refl
 
-  pub tests-unmet : chain_fault n chain room.answers ≡ None → drawn_end n chain room found None ≡ window_of n chain room (accepted found)
+  pub tests-unmet : chain_fault n chain room.answers ≡ no_fault → drawn_end n chain room found no_fault ≡ window_of n chain room (accepted found)
   unfolding window_of
   tests-unmet e = rw e refl
 
@@ -115,7 +115,7 @@ module _ (order : Order) (chain : Chain) (room : Room) where
   call-listed e = ap (window_of order.n chain room) e
 
 -- the same end by another name
-pub ends_same : {due due' : WindowEnd} {answer answer' : Run} {list : List ℤ} {group : List ℕ} {answers : List ℤ} → due ≡ due' → answer' ≡ answer
+pub ends_same : {due due' : WindowEnd} {answer answer' : Outcome Run} {list : List ℤ} {group : List ℕ} {answers : List ℤ} → due ≡ due' → answer' ≡ answer
     → WindowEnds due answer list group answers → WindowEnds due' answer' list group answers
 ends_same e f E = record {
   answer_is = f ∙ E.answer_is ∙ ap (λ (d : WindowEnd). d.answer) e;
@@ -143,7 +143,7 @@ module _ (view : View) (numbers : Numbers) (start records list : List ℤ) (grou
   due = visits_of extent list group (padded start) records
 
   abbrev end : WindowEnd
-  end = drawn_end n chain room (listing_in n numbers list group) None
+  end = drawn_end n chain room (listing_in n numbers list group) no_fault
 
   module _ {answers : List ℤ} {done : ℕ} (ran : Ran view due answers done) (size : length answers ≡ room.answers) where
     abbrev rows : List (List ℤ)
@@ -162,25 +162,25 @@ module _ (view : View) (numbers : Numbers) (start records list : List ℤ) (grou
     -- a record is refused
     pub run-refused : {list' : List ℤ} {group' : List ℕ} {area : List ℤ} → done < length records / record_width
         → list' ≡ filled (pos 0) room.list [] → group' ≡ filled 0 room.group [] → area ≡ cleared_from (pos 0) (done * answer_width n) answers
-        → WindowEnds end (Refused 25 done) list' group' area
+        → WindowEnds end (refused 25 done) list' group' area
     unfolding drawn_end run_end window_refused
     run-refused h p q r =
         let e : eqb (length rows) (length (draws_of records)) ≡ false =
         ne_eqb (length rows) (length (draws_of records)) (λ k. absurd (omega (arith, h, k, counted, draws-count records))) in
-        rw e (record { answer_is = ap (Refused 25) (sym counted); list_holds = p; group_holds = q; answers_hold = held r })
+        rw e (record { answer_is = ap (refused 25) (sym counted); list_holds = p; group_holds = q; answers_hold = held r })
 
     -- all have answers
     pub run-answered : {area : List ℤ} → length records / record_width ≤ done → Held n numbers list group → length list ≡ room.list → length group ≡ room.group
         → area ≡ cleared_from (pos 0) (done * answer_width n) answers
-        → WindowEnds end (Answered (length records / record_width) numbers.rows numbers.members numbers.stored numbers.sums) list group area
+        → WindowEnds end (accepted (record { records = (length records / record_width); rows = numbers.rows; members = numbers.members; stored = numbers.stored; sums = numbers.sums })) list group area
     unfolding drawn_end run_end window_answered
     run-answered h H long wide r =
         let e : eqb (length rows) (length (draws_of records)) ≡ true = eq-eqb (length rows) (length (draws_of records)) (omega (arith, h, done-few, counted, draws-count records)) in
         let a : length records / record_width ≡ length rows = omega (arith, h, done-few, counted) in
         rw e (record {
           answer_is =
-              ap (λ (k : ℕ). Answered k numbers.rows numbers.members numbers.stored numbers.sums) a
-              ∙ ap₂ (λ (k g : ℕ). Answered (length rows) k g numbers.stored numbers.sums) (sym (rows-count n numbers.rows list)) (sym (chunks-length n numbers.members group));
+              ap (λ (k : ℕ). (accepted (record { records = k; rows = numbers.rows; members = numbers.members; stored = numbers.stored; sums = numbers.sums }))) a
+              ∙ ap₂ (λ (k g : ℕ). (accepted (record { records = (length rows); rows = k; members = g; stored = numbers.stored; sums = numbers.sums }))) (sym (rows-count n numbers.rows list)) (sym (chunks-length n numbers.members group));
           list_holds = H.list_held ∙ ap (λ (k : ℕ). filled (pos 0) k (numbers_of n (listing_in n numbers list group).rows)) long;
           group_holds = H.group_held ∙ ap (λ (k : ℕ). filled 0 k (concat (listing_in n numbers list group).table)) wide;
           answers_hold = held r;

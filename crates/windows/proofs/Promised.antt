@@ -1,4 +1,7 @@
 -- What the end of the window over a run of draws promises (Specification 1.1, 3.9 and 7.4). Assumes nothing.
+use Rattle.theory.proofs.Faults.{number_of, place_of}
+use Rattle.std.specs.declared.result.Result.TheVariants.{Err}
+use Rattle.definitions.specs.Refusals.{Fault, no_fault}
 use mathlib.Core.Path.{◌≡◌, refl, sym, ◌∙◌, ap, ap₂, subst}
 use mathlib.Core.Bool.{true, ◌&&◌}
 use mathlib.Core.List.{List, []}
@@ -9,10 +12,7 @@ use lib.Dec.{eqb, leb}
 use lib.IntN.{ℤ, pos}
 use lib.ListN.{length, replicate}
 use Rattle.definitions.specs.declared.Draw.{Draw}
-use Rattle.definitions.specs.declared.Fault.{Fault}
-use Rattle.definitions.specs.declared.Fault.TheVariants.{None, At}
 use Rattle.definitions.specs.declared.Run.{Run}
-use Rattle.definitions.specs.declared.Run.TheVariants.{Answered, Refused}
 use Rattle.definitions.specs.declared.View.{View}
 use Rattle.definitions.specs.Limits.{record_width, window_limit}
 use Rattle.definitions.specs.Lists.{concat}
@@ -48,7 +48,7 @@ start-sized n chain answers_size e =
     let c = and-true-left _ (whole_rows record_width (length chain.records)) b in
     eqb-true (length chain.start) n (and-true-right (leb 1 chain.width && leb chain.width window_limit && leb 1 chain.cell && leb chain.cell n) _ c)
 
-chain-sized : (n : ℕ) (chain : Chain) (answers_size : ℕ) → chain_fault n chain answers_size ≡ None → length chain.start ≡ n
+chain-sized : (n : ℕ) (chain : Chain) (answers_size : ℕ) → chain_fault n chain answers_size ≡ no_fault → length chain.start ≡ n
 unfolding chain_fault
 chain-sized n chain answers_size e = start-sized n chain answers_size (not-false (chain_fits n chain answers_size) (if_none 6 _ (tests-none _ _ e).0))
 
@@ -59,12 +59,12 @@ chain-said n chain answers_size =
     said-first _ (said-if 6 _ (λ h. omega arith)) (λ e. said-first _ (said-where 14 _ _ (λ p l h. omega arith)) (λ f. said-end _))
 
 -- what a reader may conclude from the answer
-record Concluded (order : Order) (chain : Chain) (answer : Run) (list : List ℤ) (group : List ℕ) (answers : List ℤ) : Type 0 where
-  accepted : (records rows members stored sums : ℕ) → answer ≡ Answered records rows members stored sums → WindowAccepted order chain answer list group answers
-  record_refused : (place : ℕ) → answer ≡ Refused 25 place → RecordRefused order chain place list group answers
-  refused : (number place : ℕ) → answer ≡ Refused number place → ¬ (number ≡ 25) → WindowZero list group answers
+record Concluded (order : Order) (chain : Chain) (answer : Outcome Run) (list : List ℤ) (group : List ℕ) (answers : List ℤ) : Type 0 where
+  accepted : (run : Run) → answer ≡ accepted run → WindowAccepted order chain answer list group answers
+  record_refused : (place : ℕ) → answer ≡ refused 25 place → RecordRefused order chain place list group answers
+  refused : (number place : ℕ) → answer ≡ refused number place → ¬ (number ≡ 25) → WindowZero list group answers
 
-module _ (order : Order) (chain : Chain) (room : Room) (answer : Run) (list : List ℤ) (group : List ℕ) (answers : List ℤ) where
+module _ (order : Order) (chain : Chain) (room : Room) (answer : Outcome Run) (list : List ℤ) (group : List ℕ) (answers : List ℤ) where
   -- .. at an end that is due
   abbrev Concludes : WindowEnd → Type 0
   Concludes due = WindowEnds due answer list group answers → Concluded order chain answer list group answers
@@ -74,8 +74,8 @@ module _ (order : Order) (chain : Chain) (room : Room) (answer : Run) (list : Li
     refused-early : (number place : ℕ) → ¬ (number ≡ 25) → Concludes (window_refused room number place [])
     unfolding window_refused concat
     refused-early number place other E = record {
-      accepted = λ records rows members stored sums e. let z : ◌≡◌ {A = ℕ} 0 1 = cc in absurd (omega arith);
-      record_refused = λ p e. let q : number ≡ 25 = cc in absurd (other q);
+      accepted = λ run e. let z : ◌≡◌ {A = ℕ} 0 1 = cc in absurd (omega arith);
+      record_refused = λ p e. let q : number ≡ 25 = ap number_of (sym E.answer_is ∙ e) in absurd (other q);
       refused = λ m p e ne. record {
         list_holds = cleared (pos 0) room.list long E.list_holds;
         group_holds = cleared 0 room.group wide E.group_holds;
@@ -107,10 +107,10 @@ module _ (order : Order) (chain : Chain) (room : Room) (answer : Run) (list : Li
       all-answered : length rows ≡ length draws → Concludes (window_answered order.n room found rows)
       unfolding window_answered
       all-answered all E = record {
-        accepted = λ records list_rows members stored sums e. record {
+        accepted = λ run e. record {
           found = found;
           kept = F.kept;
-          says = E.answer_is ∙ ap (λ (k : ℕ). Answered k (length found.rows) (length found.table) found.stored found.sums) (all ∙ draws-count chain.records);
+          says = E.answer_is ∙ ap (λ (k : ℕ). (accepted (record { records = k; rows = (length found.rows); members = (length found.table); stored = found.stored; sums = found.sums }))) (all ∙ draws-count chain.records);
           list_holds = E.list_holds ∙ ap (λ (k : ℕ). filled (pos 0) k (numbers_of order.n found.rows)) (sym long);
           group_holds = E.group_holds ∙ ap (λ (k : ℕ). filled 0 k (concat found.table)) (sym wide);
           reached = λ i l. area-reached order start each room.answers E.answers_hold i (omega (arith, draws-count chain.records));
@@ -123,9 +123,9 @@ module _ (order : Order) (chain : Chain) (room : Room) (answer : Run) (list : Li
       one-refused : (length rows ≡ length draws → ⊥) → Concludes (window_refused room 25 (length rows) rows)
       unfolding window_refused
       one-refused other E = record {
-        accepted = λ records list_rows members stored sums e. let z : ◌≡◌ {A = ℕ} 0 1 = cc in absurd (omega arith);
+        accepted = λ run e. let z : ◌≡◌ {A = ℕ} 0 1 = cc in absurd (omega arith);
         record_refused = λ p e.
-            let at : length rows ≡ p = cc in
+            let at : length rows ≡ p = ap place_of (sym E.answer_is ∙ e) in
             subst (λ (place : ℕ). RecordRefused order chain place list group answers) at (record {
               sent = omega (arith, run-few F view start draws, draws-count chain.records);
               list_holds = cleared (pos 0) room.list long E.list_holds;
@@ -133,7 +133,7 @@ module _ (order : Order) (chain : Chain) (room : Room) (answer : Run) (list : Li
               answers_hold = E.answers_hold ∙ ap₂ (filled (pos 0)) (sym deep) (sym (area-front order start each room.answers E.answers_hold));
               reached = area-reached order start each room.answers E.answers_hold;
             });
-        refused = λ m p e ne. let q : m ≡ 25 = cc in absurd (ne q);
+        refused = λ m p e ne. let q : m ≡ 25 = ap number_of (sym e ∙ E.answer_is) in absurd (ne q);
       }
 
       run-concluded : Concludes (run_end order.n room found (length draws) rows)
@@ -143,16 +143,16 @@ module _ (order : Order) (chain : Chain) (room : Room) (answer : Run) (list : Li
     -- ---- every end
     drawn-concluded : (found : Listing) → listing order room.list room.group ≡ accepted found → (fault : Fault) → chain_fault order.n chain room.answers ≡ fault → Concludes (drawn_end order.n chain room found fault)
     unfolding drawn_end
-    drawn-concluded found q None e = run-concluded found q (chain-sized order.n chain room.answers e)
-    drawn-concluded found q (At number place) e = refused-early number place (subst (Said (λ number place. ¬ (number ≡ 25))) e (chain-said order.n chain room.answers)).said
+    drawn-concluded found q no_fault e = run-concluded found q (chain-sized order.n chain room.answers e)
+    drawn-concluded found q (Err r) e = refused-early r.number r.place (subst (Said (λ m p. ¬ (m ≡ 25))) e (chain-said order.n chain room.answers)).said
 
     concluded : (o : Outcome Listing) → listing order room.list room.group ≡ o → Concludes (window_of order.n chain room o)
     unfolding window_of
-    concluded (refused number place) q = refused-early number place (λ e. omega (arith, (list-reported order room.list room.group number place q).own (omega arith)))
+    concluded (Err r) q = refused-early r.number r.place (λ e. omega (arith, (list-reported order room.list room.group r.number r.place q).own (omega arith)))
     concluded (accepted found) q = drawn-concluded found q (chain_fault order.n chain room.answers) refl
 
 -- A WINDOW KEEPS ITS PROMISE
-pub window-promise : (order : Order) (chain : Chain) (room : Room) {answer : Run} {list : List ℤ} {group : List ℕ} {answers : List ℤ} → WindowEnds (window_call order chain room) answer list group answers
+pub window-promise : (order : Order) (chain : Chain) (room : Room) {answer : Outcome Run} {list : List ℤ} {group : List ℕ} {answers : List ℤ} → WindowEnds (window_call order chain room) answer list group answers
     → length list ≡ room.list → length group ≡ room.group → length answers ≡ room.answers → WindowPromise order chain room answer list group answers
 unfolding window_call
 window-promise order chain room {answer} {list} {group} {answers} E long wide deep =

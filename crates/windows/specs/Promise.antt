@@ -1,7 +1,7 @@
 -- What the window over a run of draws promises, for every input (Specification 1.1, 3.9, 7.4 and 11). Assumes nothing.
+use Rattle.definitions.specs.Refusals.{Outcome, accepted, refused}
 use Rattle.std.specs.Prelude.{◌≡◌, List, ℕ, ◌*◌, ◌/◌, ◌<◌, ℤ, pos, length, take, drop, replicate}
 use Rattle.definitions.specs.declared.Run.{Run}
-use Rattle.definitions.specs.declared.Run.TheVariants.{Answered, Refused}
 use Rattle.definitions.specs.Limits.{record_width}
 use Rattle.definitions.specs.Lists.{concat}
 use Rattle.definitions.specs.Vector.{Vector, padded}
@@ -21,13 +21,18 @@ AllReached order chain answers count =
     (i : ℕ) → i < count → Reached order (padded chain.start) (table_at order.n answers i)
 
 -- all records have answers; the list area holds a whole list, sorted, and the group area the table of the group
-pub record WindowAccepted (order : Order) (chain : Chain) (answer : Run) (list : List ℤ) (group : List ℕ)
+pub record WindowAccepted (order : Order) (chain : Chain) (answer : Outcome Run) (list : List ℤ) (group : List ℕ)
     (answers : List ℤ) : Type 0 where
   pub found : Listing
   pub kept : ListKept order found
   pub says : answer
-      ≡ Answered (length chain.records / record_width) (length found.rows) (length found.table)
-      found.stored found.sums
+      ≡ accepted (record {
+        records = length chain.records / record_width;
+        rows = length found.rows;
+        members = length found.table;
+        stored = found.stored;
+        sums = found.sums;
+      })
   pub list_holds : list ≡ filled (pos 0) (length list) (numbers_of order.n found.rows)
   pub group_holds : group ≡ filled 0 (length group) (concat found.table)
   pub reached : AllReached order chain answers (length chain.records / record_width)
@@ -48,16 +53,15 @@ pub record WindowZero (list : List ℤ) (group : List ℕ) (answers : List ℤ) 
   pub answers_hold : answers ≡ replicate (length answers) (pos 0)
 
 -- the answer and the three areas by the definition; and what a reader may conclude from an answer
-pub record WindowPromise (order : Order) (chain : Chain) (room : Room) (answer : Run) (list : List ℤ)
+pub record WindowPromise (order : Order) (chain : Chain) (room : Room) (answer : Outcome Run) (list : List ℤ)
     (group : List ℕ) (answers : List ℤ) : Type 0 where
   pub answer_is : answer ≡ (window_call order chain room).answer
   pub list_holds : list ≡ (window_call order chain room).list
   pub group_holds : group ≡ (window_call order chain room).group
   pub answers_hold : answers ≡ (window_call order chain room).answers
-  pub accepted : (records rows members stored sums : ℕ) → answer ≡ Answered records rows members stored sums
-      → WindowAccepted order chain answer list group answers
-  pub record_refused : (place : ℕ) → answer ≡ Refused 25 place → RecordRefused order chain place list group answers
-  pub refused : (number place : ℕ) → answer ≡ Refused number place → ¬ (number ≡ 25) → WindowZero list group answers
+  pub accepted : (run : Run) → answer ≡ accepted run → WindowAccepted order chain answer list group answers
+  pub record_refused : (place : ℕ) → answer ≡ refused 25 place → RecordRefused order chain place list group answers
+  pub refused : (number place : ℕ) → answer ≡ refused number place → ¬ (number ≡ 25) → WindowZero list group answers
 
 -- what a sampler sends, and the sizes of the areas that are lent
 abbrev pub sent_chain : (start : Lent ℤ) (width cell : ℕ) (records : Lent ℤ) → Chain
@@ -73,7 +77,7 @@ room_in list group answers = record {
 
 -- .. of the order and the chain that are sent, in the areas that are lent
 abbrev pub KeepsWindow : Order → Chain → (list : LentMut ℤ) (group : LentMut ℕ) (answers : LentMut ℤ)
-    (answer : Run) → Type 0
+    (answer : Outcome Run) → Type 0
 KeepsWindow order chain list group answers answer =
     WindowPromise order chain (room_in list group answers) answer
     list.exit.now group.exit.now answers.exit.now

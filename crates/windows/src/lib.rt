@@ -7,27 +7,26 @@ ghost use Rattle.windows.specs.Promise.{KeepsWindow, sent_chain};
 ghost use Rattle.windows.specs.Found.{Fitting, Refuses, WindowEndsIn, drawn, tested};
 
 use definitions::limits::{FIGURES_WIDTH, RECORD_WIDTH};
-use definitions::{Fault, Run, View};
+use definitions::{Refusal, Run, View};
 use draws::{chain_fault, draw_records};
-use moves::{Listed, Numbers, make_list};
+use moves::{Numbers, make_list};
 use reduction::{Extent, Shape};
-use vectors::{clear, clear_bytes, load};
+use vectors::{clear, load};
 
 // A refusal: zeros in the list and group areas, and in the answers area from `at` on (Specification 7.4).
 fn refuse(
-    number: u64,
-    place: u64,
+    refusal: Refusal,
     at: usize,
     list: &mut [i32],
     group: &mut [u8],
     answers: &mut [i32],
-) -> Run
-    ensures refused { Refuses number place at list group answers result }
+) -> Result<Run, Refusal>
+    ensures refused { Refuses refusal at list group answers result }
 {
-    clear(&mut *list, 0);
-    clear_bytes(&mut *group, 0);
-    clear(&mut *answers, at);
-    Run::Refused { number, place }
+    clear(&mut *list, 0, 0);
+    clear(&mut *group, 0, 0);
+    clear(&mut *answers, at, 0);
+    Err(refusal)
 }
 
 // The run, and refusal 25, with a list and a table in their areas (Specification 3.9).
@@ -39,7 +38,7 @@ fn draw_listed(
     group: &mut [u8],
     answers: &mut [i32],
     found: Numbers,
-) -> Run
+) -> Result<Run, Refusal>
     requires held { Held view.n found list.old group.old }
     requires fitting { Fitting view start.now records.now answers.old }
     ensures ended { WindowEndsIn (drawn view found start records list group) list group answers result }
@@ -54,16 +53,20 @@ fn draw_listed(
     let end = done * (n + FIGURES_WIDTH);
     let count = records.len() / RECORD_WIDTH;
     if done < count {
-        return refuse(25, done as u64, end, &mut *list, &mut *group, &mut *answers);
+        let refusal = Refusal {
+            number: 25,
+            place: done as u64,
+        };
+        return refuse(refusal, end, &mut *list, &mut *group, &mut *answers);
     }
-    clear(&mut *answers, end);
-    Run::Answered {
+    clear(&mut *answers, end, 0);
+    Ok(Run {
         records: count as u64,
         rows: found.rows,
         members: found.members,
         stored: found.stored,
         sums: found.sums,
-    }
+    })
 }
 
 // 6, 14 and the run, once the List has ended (Specification 7.1).
@@ -75,25 +78,22 @@ fn test_listed(
     group: &mut [u8],
     answers: &mut [i32],
     found: Numbers,
-) -> Run
+) -> Result<Run, Refusal>
     requires held { Held view.n found list.old group.old }
     ensures ended { WindowEndsIn (tested view found start records list group) list group answers result }
 {
-    let fault = chain_fault(start, view, records, answers.len());
-    match fault {
-        Fault::At { number, place } => {
-            refuse(number, place, 0, &mut *list, &mut *group, &mut *answers)
-        }
-        Fault::None => draw_listed(
-            start,
-            view,
-            records,
-            &mut *list,
-            &mut *group,
-            &mut *answers,
-            found,
-        ),
+    if let Err(refusal) = chain_fault(start, view, records, answers.len()) {
+        return refuse(refusal, 0, &mut *list, &mut *group, &mut *answers);
     }
+    draw_listed(
+        start,
+        view,
+        records,
+        &mut *list,
+        &mut *group,
+        &mut *answers,
+        found,
+    )
 }
 
 // The window over a run of draws: what List leaves in the list area and the group area, and an answer row for each
@@ -111,37 +111,21 @@ pub fn window(
     list: &mut [i32],
     group: &mut [u8],
     answers: &mut [i32],
-) -> Run
+) -> Result<Run, Refusal>
     ensures kept { let order = sent_order n generators exchanges images in
         KeepsWindow order (sent_chain start width cell records) list group answers result }
 {
     let found = make_list(n, generators, exchanges, images, &mut *list, &mut *group);
     match found {
-        Listed::Refused { number, place } => {
-            refuse(number, place, 0, &mut *list, &mut *group, &mut *answers)
-        }
-        Listed::Found {
-            rows,
-            members,
-            stored,
-            sums,
-        } => {
-            let numbers = Numbers {
-                rows,
-                members,
-                stored,
-                sums,
-            };
-            let view = View { n, width, cell };
-            test_listed(
-                start,
-                view,
-                records,
-                &mut *list,
-                &mut *group,
-                &mut *answers,
-                numbers,
-            )
-        }
+        Err(refusal) => refuse(refusal, 0, &mut *list, &mut *group, &mut *answers),
+        Ok(numbers) => test_listed(
+            start,
+            View { n, width, cell },
+            records,
+            &mut *list,
+            &mut *group,
+            &mut *answers,
+            numbers,
+        ),
     }
 }

@@ -1,6 +1,5 @@
 -- `put_text` meets its contract: the text is copied where there is room, and else the area is cleared. Assumes nothing.
 use mathlib.Core.Path.{sym, ◌∙◌}
-use Prim.Native.Nat.{◌-◌, ◌<◌, ◌≤◌}
 use native.Mathlib.Omega.{arith}
 use lib.ListN.{length}
 use Rattle.theory.proofs.Areas.{filled-nothing}
@@ -11,13 +10,13 @@ pub returns-then-room-m : goal.returns-then-room-m
 returns-then-room-m c =
     let a = c.args in
     let n = length a.area.now in
-    let h : n - a.at < length a.text.now = omega arith in record {
+    record {
       wrote = record {
         page =
-            c.clear_bytes.ensures.cleared
+            c.clear.ensures.cleared
             ∙ filled-nothing 0 n
-            ∙ sym (written-no a.area.now a.at a.text.now h);
-        place = sym (behind-no n a.at a.text.now h);
+            ∙ sym (written-no a.area.now a.at a.text.now (omega arith));
+        place = sym (behind-no n a.at a.text.now (omega arith));
       };
     }
 
@@ -25,9 +24,9 @@ pub returns : goal.returns
 returns c =
     let a = c.args in
     let n = length a.area.now in
-    let h : length a.text.now ≤ n - a.at = omega arith in record {
+    record {
       wrote = record {
-        page = c.copy_at.ensures.copied ∙ sym (written-yes a.area.now a.at a.text.now h);
-        place = sym (behind-yes n a.at a.text.now h);
+        page = c.copy_at.ensures.copied ∙ sym (written-yes a.area.now a.at a.text.now (omega arith));
+        place = sym (behind-yes n a.at a.text.now (omega arith));
       };
     }

@@ -1,20 +1,14 @@
 -- `combined_cell` meets its contract. The invariant: the sum and the cell of the combination of what is left are the
 -- cell, and a sum of q products is small. Assumes nothing.
 use mathlib.Core.Path.{◌≡◌}
-use Prim.Native.Nat.{◌-◌, ◌*◌, ◌≤◌}
+use Prim.Native.Nat.{◌*◌, ◌≤◌}
 use lib.IntN.{nat_abs, ◌+ℤ◌}
-use lib.ListN.{length, drop}
+use lib.ListN.{drop}
 use Rattle.definitions.specs.Lent.{vectors_of}
-use Rattle.certificates.proofs.Sums.{combined_at}
-use Rattle.certificates.proofs.Sums.{term_limit}
+use Rattle.certificates.proofs.Sums.{combined_at, term_limit}
 use Rattle.certificates.proofs.combined_cell.Given as goal
 
 abbrev pub invariant-loop-q : goal.invariant-loop-q
 invariant-loop-q l =
     let vs = vectors_of l.n l.generators in
-    (l.q ≤ length l.coefficients)
-    × (nat_abs (l.sum) ≤ l.q * term_limit)
-    × (l.sum +ℤ combined_at (drop l.q l.coefficients) (drop l.q vs) l.j ≡ combined_at l.coefficients vs l.j)
-
-abbrev pub decreases-loop-q : goal.decreases-loop-q
-decreases-loop-q l = length l.coefficients - l.q
+    (nat_abs l.sum ≤ l.q * term_limit) × (l.sum +ℤ combined_at (drop l.q l.coefficients) (drop l.q vs) l.j ≡ combined_at l.coefficients vs l.j)

@@ -1,49 +1,23 @@
--- `feasible` meets its contract. The invariant: the answer so far, with that for the cells left, is the answer.
--- Assumes nothing.
-use mathlib.Core.Path.{◌≡◌, refl}
-use native.Mathlib.Omega.{arith}
-use Rattle.definitions.specs.Plan.{is_bounded}
-use Rattle.vectors.proofs.Cells.{read_back}
-use Rattle.vectors.proofs.Kit.{cell_at}
-use Rattle.vectors.proofs.Support.{kept-end, kept_more}
-use Rattle.costs.proofs.Bounds.{every-feasible}
+-- `feasible` meets its contract. Assumes nothing.
+use Rattle.std.proofs.Common.{◌≡◌, ◌∙◌, ℤ, [], ◌∷◌, length, refl, arith, rules, tests}
+use Rattle.std.specs.List.{list_all, zip}
+use Rattle.std.proofs.lemmas.Iterator.{YieldsList-from_slice, YieldsList-from_zip}
+use Rattle.std.proofs.lemmas.Iterator.Search.{all_from_yields_List}
+use Rattle.definitions.specs.Vector.{Vector}
+use Rattle.definitions.specs.Plan.{feasible, is_bounded}
 use Rattle.costs.proofs.feasible.Goals as goal
-use Rattle.costs.proofs.feasible.Goals.{After-is_bounded-fits}
 
-pub loop-cell-init : goal.loop-cell-init
-loop-cell-init c = refl
-
-pub offset_bounds-upper-cell : goal.offset_bounds-upper-cell
-offset_bounds-upper-cell c = omega arith
-
-pub bounds-upper-cell : goal.bounds-upper-cell
-bounds-upper-cell c = omega arith
-
-pub offset_bounds-v-cell : goal.offset_bounds-v-cell
-offset_bounds-v-cell c = omega arith
-
-pub bounds-v-cell : goal.bounds-v-cell
-bounds-v-cell c = omega arith
-
--- what the call says of the cells themselves
-told : (c : After-is_bounded-fits) →
-    c.is_bounded-fits.result
-    ≡ is_bounded (cell_at c.args.upper c.loop-cell.cell) (cell_at c.args.v c.loop-cell.cell)
-told c =
-    let u = read_back (cell_at c.args.upper c.loop-cell.cell) c.is_bounded-arg-1.given in
-    let v = read_back (cell_at c.args.v c.loop-cell.cell) c.is_bounded-arg-in-loop-cell-1.given in
-    simp (u, v) at c.is_bounded-fits.ensures.told
-
-pub overflow_add-cell : goal.overflow_add-cell
-overflow_add-cell c = omega arith
-
-pub loop-cell-smaller : goal.loop-cell-smaller
-loop-cell-smaller c = omega arith
-
-pub loop-cell-preserved : goal.loop-cell-preserved
-loop-cell-preserved c =
-    kept_more every-feasible c.args.upper c.args.v c.loop-cell.cell c.loop-cell.fits
-    c.loop-cell.invariant (omega arith) (omega arith) (told c)
+-- the test of all pairs is that of the two vectors
+all-feasible : (upper v : Vector) → length upper ≡ length v → list_all (λ (p : ℤ × ℤ). is_bounded p.0 p.1) (zip upper v) ≡ feasible upper v
+unfolding feasible
+all-feasible [] [] e = refl
+all-feasible [] (x ∷ v) e = absurd (omega arith)
+all-feasible (bound ∷ upper) [] e = absurd (omega arith)
+all-feasible (bound ∷ upper) (x ∷ v) e = rw (all-feasible upper v (omega arith))
 
 pub returns : goal.returns
-returns c = record { told = kept-end every-feasible _ _ c.loop-cell.cell c.loop-cell.fits c.loop-cell.invariant (omega arith) (omega arith) }
+returns c = record {
+  told = all_from_yields_List (λ (p : ℤ × ℤ). is_bounded p.0 p.1) c.all.new.self _ _ c.all.ensures.ran
+      (YieldsList-from_zip (YieldsList-from_slice c.args.upper cc) (YieldsList-from_slice c.args.v cc)) (λ x b q k. search (rules, tests))
+      ∙ all-feasible c.args.upper c.args.v (omega arith);
+}

@@ -1,7 +1,9 @@
 -- `is_entry` meets its contract. Assumes nothing.
-use mir.Facts.{to_z-of_z}
-use Rattle.draws.proofs.Entries.{entry-is}
+use Rattle.std.proofs.Common.{arith}
+use Rattle.std.proofs.lemmas.Int.{ints}
+use Rattle.definitions.specs.Window.{is_entry}
 use Rattle.draws.proofs.is_entry.Goals as goal
 
 pub returns : goal.returns
-returns c = let x = to_z-of_z c.ranges.x in record { told = simp x (entry-is c.args.x) }
+unfolding is_entry
+returns c = grind (arith, ints)

@@ -16,9 +16,6 @@ offset_bounds-area-i c = omega arith
 pub bounds-area-i : goal.bounds-area-i
 bounds-area-i c = omega arith
 
-pub overflow_add-i : goal.overflow_add-i
-overflow_add-i c = omega arith
-
 pub loop-i-smaller : goal.loop-i-smaller
 loop-i-smaller c = omega arith
 

@@ -20,7 +20,7 @@ pub returns-then-result-lt0 : goal.returns-then-result-lt0
 returns-then-result-lt0 c =
     let a = c.args in
     let l = c.check-answer in
-    let y = c.clear_bytes in
+    let y = c.clear in
     let P = check-sized (sym (y.auto.area ∙ l.auto.group)) l.ensures.kept in
     let k = c.report-result in
     let R = reports-result (sym k.auto.area) (to_z-of_z w64 k.result (record { sfits = k.type_inv })) k.ensures.reported in record {

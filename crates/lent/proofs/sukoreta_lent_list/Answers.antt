@@ -22,7 +22,7 @@ returns-then-result-lt0 c =
     let a = c.args in
     let l = c.list-answer in
     let x = c.clear in
-    let y = c.clear_bytes in
+    let y = c.clear-then-result-lt0 in
     let P =
     list-sized (sym (x.auto.area ∙ l.auto.list)) (sym (y.auto.area ∙ l.auto.group)) l.ensures.kept in
     let k = c.report-result in

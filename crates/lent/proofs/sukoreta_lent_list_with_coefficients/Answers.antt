@@ -23,8 +23,8 @@ returns-then-result-lt0 c =
     let a = c.args in
     let l = c.list_with_coefficients-answer in
     let x = c.clear in
-    let y = c.clear_bytes in
-    let z = c.clear_coefficients in
+    let y = c.clear-then-result-lt0 in
+    let z = c.clear-then-result-lt0-2 in
     let P =
     certified-sized (sym (x.auto.area ∙ l.auto.list)) (sym (y.auto.area ∙ l.auto.group))
     (sym (z.auto.area ∙ l.auto.coefficients)) l.ensures.kept in

@@ -16,7 +16,7 @@ pub returns-then-counts-lt-SESSION_COUNTS : goal.returns-then-counts-lt-SESSION_
 returns-then-counts-lt-SESSION_COUNTS c =
     let a = c.args in
     let x = c.clear in
-    let y = c.clear_bytes in
+    let y = c.clear-then-counts-lt-SESSION_COUNTS in
     let k = c.report in
     record {
       kept = session-short (order_of a.n0 a.generators0.now a.exchanges0.now a.images0.now)

@@ -24,8 +24,8 @@ returns-then-result-lt0 c =
     let a = c.args in
     let l = c.split-answer in
     let x = c.clear in
-    let y = c.clear_bytes in
-    let z = c.clear-then-result-lt0 in
+    let y = c.clear-then-result-lt0 in
+    let z = c.clear-then-result-lt0-2 in
     let P =
     split-sized (sym (x.auto.area ∙ l.auto.basis)) (sym (y.auto.area ∙ l.auto.group))
     (sym (z.auto.area ∙ l.auto.pieces)) l.ensures.kept in

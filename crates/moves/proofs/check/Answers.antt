@@ -1,18 +1,13 @@
 -- `check` meets its contract: what is found, and zeros after a refusal. Assumes nothing.
-use mathlib.Core.Path.{◌∙◌, ap}
-use mathlib.Core.List.{[]}
-use Prim.Native.Nat.{ℕ}
-use Rattle.definitions.specs.Lent.{Order, filled, order_of}
-use Rattle.moves.proofs.Checkings.{check-passed-promise, check-refused-promise, checks-is}
+use mathlib.Core.Path.{sym, ◌∙◌}
+use Rattle.moves.proofs.Checkings.{check-promise}
 use Rattle.moves.proofs.check.Goals as goal
-use Rattle.moves.proofs.check.Goals.{Start}
 
--- the order that was sent
-abbrev sent : Start → Order
-sent s = order_of s.args.n s.args.generators.now s.args.exchanges.now s.args.images.now
+pub returns-then-is_err : goal.returns-then-is_err
+returns-then-is_err c =
+    let long = c.check_list-found.auto.group in
+    record { kept = check-promise _ _ _ _ c.check_list-found.ensures.checked (rw (sym c.if-is_err.ensures.value) (rw long at c.clear.ensures.cleared)) (c.clear.auto.area ∙ long) }
 
-pub returns-in-Passed : goal.returns-in-Passed
-returns-in-Passed c = record { kept = check-passed-promise (sent (goal.at.returns-in-Passed c).Start) _ _ _ _ _ (checks-is c.check_list-found.ensures.checked c.in-Passed.is) c.check_list-found.auto.group }
-
-pub returns-in-Refused : goal.returns-in-Refused
-returns-in-Refused c = let size = c.check_list-found.auto.group in record { kept = check-refused-promise (sent (goal.at.returns-in-Refused c).Start) _ _ _ _ _ (checks-is c.check_list-found.ensures.checked c.in-Refused.is) (c.clear_bytes.ensures.cleared ∙ ap (λ (m : ℕ). filled 0 m []) size) (c.clear_bytes.auto.area ∙ size) }
+pub returns-else-is_err : goal.returns-else-is_err
+returns-else-is_err c =
+    record { kept = check-promise _ _ _ _ c.check_list-found.ensures.checked (rw (sym c.if-is_err.ensures.value)) c.check_list-found.auto.group }

@@ -1,6 +1,8 @@
 -- `refuse_split` meets its contract: the three areas are cleared. Assumes nothing.
-use Rattle.moves.proofs.Splits.{ends-cleared}
+use Rattle.std.proofs.Common.{rules}
+use Rattle.definitions.specs.Calls.{split_end}
 use Rattle.moves.proofs.refuse_split.Goals as goal
 
 pub returns : goal.returns
-returns c = record { zeros = ends-cleared _ _ _ c.clear.ensures.cleared c.clear_bytes.ensures.cleared c.clear-2.ensures.cleared }
+unfolding split_end
+returns c = search rules

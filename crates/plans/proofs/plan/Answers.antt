@@ -16,7 +16,7 @@ use Rattle.plans.proofs.Endings.{call-listed, call-unlisted, ends_same}
 use Rattle.plans.proofs.Promised.{plan-promise}
 use native.Mathlib.Omega.{arith}
 use Rattle.plans.proofs.plan.Goals as goal
-use Rattle.plans.proofs.plan.Goals.{After-make_list_with-found, In-Found, Start}
+use Rattle.plans.proofs.plan.Goals.{After-make_list_with-found, In-Ok, Start}
 
 -- what was sent, and the sizes of the areas
 module _ (s : Start) where
@@ -41,43 +41,43 @@ module _ (f : After-make_list_with-found) where
   wide = f.make_list_with-found.auto.group
 
 -- the List found something
-module _ (k : In-Found) where
+module _ (k : In-Ok) where
   abbrev f : After-make_list_with-found
-  f = (goal.at.In-Found k).After-make_list_with-found
+  f = (goal.at.In-Ok k).After-make_list_with-found
 
   abbrev numbers : Numbers
-  numbers = record { rows = k.in-Found.rows; members = k.in-Found.members; stored = k.in-Found.stored; sums = k.in-Found.sums }
+  numbers = k.in-Ok.numbers
 
-  promised : ListPromise (sent (start f)) (length f.args.list.now) (length f.args.group.now) (Moves numbers.rows numbers.members numbers.stored numbers.sums)
+  promised : ListPromise (sent (start f)) (length f.args.list.now) (length f.args.group.now) (accepted (Moves numbers.rows numbers.members numbers.stored numbers.sums))
       f.make_list_with-found.new.list f.make_list_with-found.new.group
-  promised = promise-accepted (sent (start f)) _ _ _ _ _ _ (long f) (wide f) (finds-is f.make_list_with-found.ensures.found k.in-Found.is)
+  promised = promise-accepted (sent (start f)) _ _ _ _ _ _ (long f) (wide f) (finds-is f.make_list_with-found.ensures.found k.in-Ok.is)
 
   found : Numbered promised (long f) (wide f) numbers
   found = listed promised (long f) (wide f) numbers refl
 
 pub test_listed-requires : goal.test_listed-requires
 test_listed-requires c =
-    let p = (goal.at.test_listed-requires c).In-Found in
+    let p = (goal.at.test_listed-requires c).In-Ok in
     let q = (goal.at.test_listed-requires c).After-make_list_with-found in
     record { held = listed-held (promised p) (long q) (wide q) (found p); room = omega (arith, c.make_list_with-found.auto.marks) }
 
-pub returns-in-Refused : goal.returns-in-Refused
-returns-in-Refused c =
-    let p = (goal.at.returns-in-Refused c).After-make_list_with-found in
-    let s = (goal.at.returns-in-Refused c).Start in
+pub returns-in-Err : goal.returns-in-Err
+returns-in-Err c =
+    let p = (goal.at.returns-in-Err c).After-make_list_with-found in
+    let s = (goal.at.returns-in-Err c).Start in
     let x = c.refuse in
-    let due = ap₂ (λ (l m : ℕ). plan_refused (record { list = l; group = m; plan = length c.args.plan.now }) c.in-Refused.number c.in-Refused.place) (long p) (wide p)
-    ∙ call-unlisted (sent s) (problem s) (areas s) (found-refused (sent s) _ _ (finds-is c.make_list_with-found.ensures.found c.in-Refused.is)) in
+    let due = ap₂ (λ (l m : ℕ). plan_refused (record { list = l; group = m; plan = length c.args.plan.now }) c.in-Err.refusal.number c.in-Err.refusal.place) (long p) (wide p)
+    ∙ call-unlisted (sent s) (problem s) (areas s) (found-refused (sent s) _ _ (finds-is c.make_list_with-found.ensures.found c.in-Err.is)) in
     let E = ends_same due x.ensures.refused in record {
       kept = plan-promise (sent s) (problem s) (areas s) E.answer_is E.list_holds E.group_holds E.plan_holds
           (x.auto.list ∙ long p) (x.auto.group ∙ wide p) x.auto.plan;
     }
 
-pub returns-in-Found : goal.returns-in-Found
-returns-in-Found c =
-    let p = (goal.at.returns-in-Found c).In-Found in
-    let s = (goal.at.returns-in-Found c).Start in
-    let q = (goal.at.returns-in-Found c).After-make_list_with-found in
+pub returns-in-Ok : goal.returns-in-Ok
+returns-in-Ok c =
+    let p = (goal.at.returns-in-Ok c).In-Ok in
+    let s = (goal.at.returns-in-Ok c).Start in
+    let q = (goal.at.returns-in-Ok c).After-make_list_with-found in
     let x = c.test_listed in
     let at : Listing = listing_in c.args.n (numbers p) c.make_list_with-found.new.list c.make_list_with-found.new.group in
     let due =

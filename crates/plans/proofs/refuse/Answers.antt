@@ -6,4 +6,4 @@ use Rattle.plans.proofs.refuse.Goals as goal
 -- src/lib.rt:37:1
 pub returns : goal.returns
 unfolding plan_refused
-returns c = record { refused = record { answer_is = refl; list_holds = c.clear.ensures.cleared; group_holds = c.clear_bytes.ensures.cleared; plan_holds = c.clear-2.ensures.cleared } }
+returns c = record { refused = record { answer_is = refl; list_holds = c.clear.ensures.cleared; group_holds = c.clear-2.ensures.cleared; plan_holds = c.clear-3.ensures.cleared } }

@@ -1,4 +1,5 @@
 -- `check_order` meets its contract: the parts of the areas that are lent hold what the file says. Assumes nothing.
+use Rattle.definitions.specs.Refusals.{accepted}
 use mathlib.Core.Path.{◌≡◌, sym, ◌∙◌, ap}
 use mathlib.Core.List.{List}
 use Prim.Native.Nat.{ℕ, ◌*◌, ◌≤◌}
@@ -8,28 +9,27 @@ use lib.Seq.{length-take-le}
 use Rattle.definitions.specs.Limits.{cells, generator_limit, list_limit}
 use Rattle.orders.specs.declared.Service.TheVariants.{Check as CheckService}
 use Rattle.orders.specs.declared.Counts.{Counts}
-use Rattle.orders.specs.declared.Scanned.TheVariants.{Counted}
 use Rattle.orders.specs.Scan.{Few, scan_of}
 use Rattle.orders.specs.Operands.{coefficients_in, rows_in}
-use Rattle.orders.proofs.Commands.{Accepted, accepted}
+use Rattle.orders.proofs.Commands.{Accepted, accepted-order}
 use Rattle.orders.proofs.Numbers.{coefficients-count, front, rows-count}
 use Rattle.services.proofs.Rooms.{coefficients-room, rows-room}
 use Rattle.services.proofs.Serving.{check-says, order-read}
 use Rattle.services.proofs.check_order.Goals as goal
 
 -- the file is accepted
-found : {file : List ℕ} {k : Counts} → scan_of CheckService file ≡ Counted k → Accepted CheckService file k
-found {file} {k} = accepted CheckService file k
+found : {file : List ℕ} {k : Counts} → scan_of CheckService file ≡ accepted k → Accepted CheckService file k
+found {file} {k} = accepted-order CheckService file k
 
-few : (file : List ℕ) {k : Counts} → scan_of CheckService file ≡ Counted k → Few k
+few : (file : List ℕ) {k : Counts} → scan_of CheckService file ≡ accepted k → Few k
 few file e = (found e).readable.limited.few
 
 -- its rows and coefficients fit in areas for any
-rows_fit : (file : List ℕ) {k : Counts} (size : ℕ) → scan_of CheckService file ≡ Counted k → size ≡ list_limit * cells
+rows_fit : (file : List ℕ) {k : Counts} (size : ℕ) → scan_of CheckService file ≡ accepted k → size ≡ list_limit * cells
     → k.rows * k.cells ≤ size
 rows_fit file {k} size e s = omega (arith, rows-room k (few file e), s)
 
-coefficients_fit : (file : List ℕ) {k : Counts} (size : ℕ) → scan_of CheckService file ≡ Counted k
+coefficients_fit : (file : List ℕ) {k : Counts} (size : ℕ) → scan_of CheckService file ≡ accepted k
     → size ≡ list_limit * generator_limit → k.rows * k.generators ≤ size
 coefficients_fit file {k} size e s = omega (arith, coefficients-room k (few file e), s)
 

@@ -1,4 +1,5 @@
 -- `list_order` meets its contract: the parts of the areas that are lent hold what the file says. Assumes nothing.
+use Rattle.definitions.specs.Refusals.{accepted}
 use mathlib.Core.Path.{◌≡◌, sym}
 use mathlib.Core.List.{List}
 use Prim.Native.Nat.{ℕ, ◌*◌, ◌≤◌}
@@ -9,18 +10,17 @@ use lib.Seq.{length-take-le}
 use Rattle.definitions.specs.Limits.{cells, list_limit}
 use Rattle.orders.specs.declared.Service.TheVariants.{List as ListService}
 use Rattle.orders.specs.declared.Counts.{Counts}
-use Rattle.orders.specs.declared.Scanned.TheVariants.{Counted}
 use Rattle.orders.specs.Scan.{Few, scan_of}
-use Rattle.orders.proofs.Commands.{accepted}
+use Rattle.orders.proofs.Commands.{accepted-order}
 use Rattle.services.proofs.Serving.{order-read, list-serves}
 use Rattle.services.proofs.list_order.Goals as goal
 
 -- the counts of the file
-few : (file : List ℕ) {k : Counts} → scan_of ListService file ≡ Counted k → Few k
-few file {k} e = (accepted ListService file k e).readable.limited.few
+few : (file : List ℕ) {k : Counts} → scan_of ListService file ≡ accepted k → Few k
+few file {k} e = (accepted-order ListService file k e).readable.limited.few
 
 -- its list fits in an area for any
-fits : (file : List ℕ) {k : Counts} (list : List ℤ) → scan_of ListService file ≡ Counted k
+fits : (file : List ℕ) {k : Counts} (list : List ℤ) → scan_of ListService file ≡ accepted k
     → list_limit * cells ≤ length list → list_limit * k.cells ≤ length list
 fits file list e room = omega (arith, (few file e).cells-ok, room)
 

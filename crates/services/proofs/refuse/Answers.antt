@@ -12,5 +12,5 @@ returns c =
     let a = c.args in record {
       ends = ends-refused (length a.area.now) a.number a.place
           (to_z-of_z w64 c.refusal.result (record { sfits = c.refusal.type_inv }) ∙ c.refusal.ensures.refused)
-          (c.clear_bytes.ensures.cleared ∙ filled-nothing 0 _);
+          (c.clear.ensures.cleared ∙ filled-nothing 0 _);
     }

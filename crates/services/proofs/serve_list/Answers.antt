@@ -4,20 +4,16 @@ use Rattle.orders.specs.declared.Service.TheVariants.{List as ListService}
 use Rattle.services.proofs.Serving.{accepted-serves, refused-serves}
 use Rattle.services.proofs.serve_list.Goals as goal
 
-pub list_file-answer-requires : goal.list_file-answer-requires
-list_file-answer-requires c = record { accepted = sym c.scan-found.ensures.scanned ∙ c.in-Counted.is; room = c.requires.room }
+pub list_file-requires : goal.list_file-requires
+list_file-requires c = record { accepted = sym c.scan.ensures.scanned ∙ c.in-Ok.is; room = c.requires.room }
 
-pub returns-in-Refused : goal.returns-in-Refused
-returns-in-Refused c =
-    record {
-      served = refused-serves ListService c.args.order.now _ _
-          (sym c.scan-found.ensures.scanned ∙ c.in-Refused.is);
-    }
+pub returns-in-Err : goal.returns-in-Err
+returns-in-Err c =
+    record { served = refused-serves ListService c.args.order.now _ _ (sym c.scan.ensures.scanned ∙ c.in-Err.is) }
 
-pub returns-in-Counted : goal.returns-in-Counted
-returns-in-Counted c =
+pub returns-in-Ok : goal.returns-in-Ok
+returns-in-Ok c =
     record {
-      served = accepted-serves ListService c.args.order.now
-          (sym c.scan-found.ensures.scanned ∙ c.in-Counted.is)
-          c.list_file-answer.ensures.served;
+      served = accepted-serves ListService c.args.order.now (sym c.scan.ensures.scanned ∙ c.in-Ok.is)
+          c.list_file.ensures.served;
     }

@@ -1,4 +1,5 @@
 -- `split_order` meets its contract: the parts of the areas that are lent hold what the file says. Assumes nothing.
+use Rattle.definitions.specs.Refusals.{accepted}
 use mathlib.Core.Path.{◌≡◌, sym, ◌∙◌, ap}
 use mathlib.Core.List.{List}
 use Prim.Native.Nat.{ℕ, ◌≤◌}
@@ -8,23 +9,22 @@ use lib.Seq.{length-take-le}
 use Rattle.definitions.specs.Limits.{cells}
 use Rattle.orders.specs.declared.Service.TheVariants.{Split as SplitService}
 use Rattle.orders.specs.declared.Counts.{Counts}
-use Rattle.orders.specs.declared.Scanned.TheVariants.{Counted}
 use Rattle.orders.specs.Scan.{scan_of}
 use Rattle.orders.specs.Operands.{vector_in}
-use Rattle.orders.proofs.Commands.{Accepted, accepted}
+use Rattle.orders.proofs.Commands.{Accepted, accepted-order}
 use Rattle.orders.proofs.Numbers.{front, vector-count}
 use Rattle.services.proofs.Serving.{order-read, split-serves}
 use Rattle.services.proofs.split_order.Goals as goal
 
 -- the file is accepted
-found : {file : List ℕ} {k : Counts} → scan_of SplitService file ≡ Counted k → Accepted SplitService file k
-found {file} {k} = accepted SplitService file k
+found : {file : List ℕ} {k : Counts} → scan_of SplitService file ≡ accepted k → Accepted SplitService file k
+found {file} {k} = accepted-order SplitService file k
 
-few : (file : List ℕ) {k : Counts} → scan_of SplitService file ≡ Counted k → k.cells ≤ cells
+few : (file : List ℕ) {k : Counts} → scan_of SplitService file ≡ accepted k → k.cells ≤ cells
 few file e = (found e).readable.limited.few.cells-ok
 
 -- its vector fits in an area for any
-vector_fits : (file : List ℕ) {k : Counts} (size : ℕ) → scan_of SplitService file ≡ Counted k → size ≡ cells
+vector_fits : (file : List ℕ) {k : Counts} (size : ℕ) → scan_of SplitService file ≡ accepted k → size ≡ cells
     → k.cells ≤ size
 vector_fits file size e s = omega (arith, few file e, s)
 

@@ -5,13 +5,13 @@ use Rattle.session_orders.proofs.Halves.{ends-listed, ends-refused, ends-unfinis
 use Rattle.session_orders.proofs.end_order.Goals as goal
 
 pub returns-then-s : goal.returns-then-s
-returns-then-s c = record { ended = ends-unfinished c.requires.standing c.requires.sized c.in-Running.is (omega arith) c.clear-then-s.ensures.cleared }
+returns-then-s c = record { ended = ends-unfinished c.requires.standing c.requires.sized c.in-Ok.is (omega arith) c.clear-then-s.ensures.cleared }
 
 pub finish-rows-requires : goal.finish-rows-requires
-finish-rows-requires c = let e = c.in-Running.is in record { held = rows-marked c.requires.standing c.requires.sized e; room = stored-few c.requires.standing c.requires.sized e }
+finish-rows-requires c = let e = c.in-Ok.is in record { held = rows-marked c.requires.standing c.requires.sized e; room = stored-few c.requires.standing c.requires.sized e }
 
-pub returns-in-Stopped : goal.returns-in-Stopped
-returns-in-Stopped c = record { ended = ends-refused c.requires.standing c.requires.sized c.in-Stopped.is c.clear.ensures.cleared }
+pub returns-in-Err : goal.returns-in-Err
+returns-in-Err c = record { ended = ends-refused c.requires.standing c.requires.sized c.in-Err.is c.clear.ensures.cleared }
 
 pub returns-else-s : goal.returns-else-s
-returns-else-s c = record { ended = ends-listed c.requires.standing c.requires.sized c.in-Running.is (omega arith) c.finish-rows.ensures.finished }
+returns-else-s c = record { ended = ends-listed c.requires.standing c.requires.sized c.in-Ok.is (omega arith) c.finish-rows.ensures.finished }

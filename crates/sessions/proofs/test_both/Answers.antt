@@ -1,9 +1,9 @@
 -- `test_both` meets its contract: both orders' tests, and one table. Assumes nothing.
+use Rattle.definitions.specs.Refusals.{Fault}
 use mathlib.Core.Path.{◌≡◌, sym, ◌∙◌, ap, ap₂}
 use mathlib.Core.List.{[], ◌∷◌}
 use Prim.Native.Nat.{ℕ}
 use lib.ListN.{length}
-use Rattle.definitions.specs.declared.Fault.{Fault}
 use Rattle.definitions.specs.Lent.{Order, order_of}
 use Rattle.definitions.specs.Refusals.{first_fault, lattice_fault}
 use Rattle.definitions.specs.Session.{difference_fault, difference_from, own_fault, shared_fault}

@@ -12,9 +12,6 @@ use Rattle.wholeness.proofs.Trying.{trying-fault, trying-next, trying-less, tryi
 use Rattle.wholeness.proofs.sums_fault.Goals as goal
 use Rattle.wholeness.proofs.sums_fault.Goals.{Joined-not-is_repeated_sum, then-not-is_repeated_sum+else-not-is_zero, else-not-is_repeated_sum}
 
-pub nonzero_div-stored : goal.nonzero_div-stored
-nonzero_div-stored c = c.requires.ready.brought.rows_of_table.positive
-
 pub loop-s-init : goal.loop-s-init
 loop-s-init c = rw c.first-s.ensures.first (trying_start c.requires.ready.brought)
 

@@ -3,6 +3,7 @@ use mathlib.Core.Path.{refl, sym, ◌∙◌}
 use lib.ListN.{length}
 use Rattle.definitions.specs.Calls.{Listing}
 use Rattle.definitions.specs.Window.{Chain, Room}
+use Rattle.theory.proofs.Faults.{unmet}
 use Rattle.moves.specs.Found.{listing_in}
 use Rattle.windows.proofs.Endings.{ends_same, refused-ends, tests-met, tests-unmet}
 use Rattle.windows.proofs.test_listed.Goals as goal
@@ -19,18 +20,19 @@ module _ (s : Start) where
   found = listing_in s.args.view.n s.args.found s.args.list.now s.args.group.now
 
 pub draw_listed-requires : goal.draw_listed-requires
-draw_listed-requires c = record { held = c.requires.held; fitting = sym c.chain_fault-fault.ensures.found ∙ c.in-None.is }
+draw_listed-requires c = record { held = c.requires.held; fitting = sym c.chain_fault.ensures.found ∙ unmet c.in_default.not-Err }
 
-pub returns-in-At : goal.returns-in-At
-returns-in-At c =
-    let s = (goal.at.returns-in-At c).Start in
+pub returns-in-Err : goal.returns-in-Err
+returns-in-Err c =
+    let s = (goal.at.returns-in-Err c).Start in
     let x = c.refuse in
-    let e = sym c.chain_fault-fault.ensures.found ∙ c.in-At.is in record {
+    let e = sym c.chain_fault.ensures.found ∙ c.in-Err.is in record {
       ended = ends_same (tests-met c.args.view.n (chain s) (areas s) (found s) e) x.ensures.refused.answer_is
           (refused-ends (areas s) _ _ c.args.answers.now refl x.ensures.refused.list_holds x.ensures.refused.group_holds x.ensures.refused.answers_hold);
     }
 
-pub returns-in-None : goal.returns-in-None
-returns-in-None c =
-    let s = (goal.at.returns-in-None c).Start in
-    let e = sym c.chain_fault-fault.ensures.found ∙ c.in-None.is in record { ended = ends_same (tests-unmet c.args.view.n (chain s) (areas s) (found s) e) refl c.draw_listed.ensures.ended }
+pub returns : goal.returns
+returns c =
+    let s = (goal.at.returns c).Start in
+    let e = sym c.chain_fault.ensures.found ∙ unmet c.in_default.not-Err in
+    record { ended = ends_same (tests-unmet c.args.view.n (chain s) (areas s) (found s) e) refl c.draw_listed.ensures.ended }

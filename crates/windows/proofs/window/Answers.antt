@@ -17,7 +17,7 @@ use Rattle.moves.proofs.Splits.{Numbered, listed, listed-held, listed_same}
 use Rattle.windows.proofs.Endings.{call-listed, call-unlisted, ends_same, refused-ends}
 use Rattle.windows.proofs.Promised.{window-promise}
 use Rattle.windows.proofs.window.Goals as goal
-use Rattle.windows.proofs.window.Goals.{After-make_list-found, In-Found, Start}
+use Rattle.windows.proofs.window.Goals.{After-make_list-found, In-Ok, Start}
 
 -- what was sent, and the sizes of the areas
 module _ (s : Start) where
@@ -42,43 +42,43 @@ module _ (f : After-make_list-found) where
   wide = f.make_list-found.auto.group
 
 -- the List found something
-module _ (k : In-Found) where
+module _ (k : In-Ok) where
   abbrev f : After-make_list-found
-  f = (goal.at.In-Found k).After-make_list-found
+  f = (goal.at.In-Ok k).After-make_list-found
 
   abbrev numbers : Numbers
-  numbers = record { rows = k.in-Found.rows; members = k.in-Found.members; stored = k.in-Found.stored; sums = k.in-Found.sums }
+  numbers = k.in-Ok.numbers
 
-  promised : ListPromise (sent (start f)) (length f.args.list.now) (length f.args.group.now) (Moves numbers.rows numbers.members numbers.stored numbers.sums)
+  promised : ListPromise (sent (start f)) (length f.args.list.now) (length f.args.group.now) (accepted (Moves numbers.rows numbers.members numbers.stored numbers.sums))
       f.make_list-found.new.list f.make_list-found.new.group
-  promised = promise-accepted (sent (start f)) _ _ _ _ _ _ (long f) (wide f) (finds-is f.make_list-found.ensures.found k.in-Found.is)
+  promised = promise-accepted (sent (start f)) _ _ _ _ _ _ (long f) (wide f) (finds-is f.make_list-found.ensures.found k.in-Ok.is)
 
   found : Numbered promised (long f) (wide f) numbers
   found = listed promised (long f) (wide f) numbers refl
 
 pub test_listed-requires : goal.test_listed-requires
 test_listed-requires c =
-    let p = (goal.at.test_listed-requires c).In-Found in
+    let p = (goal.at.test_listed-requires c).In-Ok in
     let q = (goal.at.test_listed-requires c).After-make_list-found in
     record { held = listed-held (promised p) (long q) (wide q) (found p) }
 
-pub returns-in-Refused : goal.returns-in-Refused
-returns-in-Refused c =
-    let s = (goal.at.returns-in-Refused c).Start in
-    let p = (goal.at.returns-in-Refused c).After-make_list-found in
+pub returns-in-Err : goal.returns-in-Err
+returns-in-Err c =
+    let s = (goal.at.returns-in-Err c).Start in
+    let p = (goal.at.returns-in-Err c).After-make_list-found in
     let x = c.refuse in record {
       kept = window-promise (sent s) (chain s) (areas s)
-          (ends_same (call-unlisted (sent s) (chain s) (areas s) (found-refused (sent s) _ _ (finds-is c.make_list-found.ensures.found c.in-Refused.is))) x.ensures.refused.answer_is
+          (ends_same (call-unlisted (sent s) (chain s) (areas s) (found-refused (sent s) _ _ (finds-is c.make_list-found.ensures.found c.in-Err.is))) x.ensures.refused.answer_is
           (refused-ends (areas s) _ _ c.args.answers.now refl
           (x.ensures.refused.list_holds ∙ ap (λ (m : ℕ). filled (pos 0) m []) (long p)) (x.ensures.refused.group_holds ∙ ap (λ (m : ℕ). filled 0 m []) (wide p)) x.ensures.refused.answers_hold))
           (x.auto.list ∙ long p) (x.auto.group ∙ wide p) x.auto.answers;
     }
 
-pub returns-in-Found : goal.returns-in-Found
-returns-in-Found c =
-    let p = (goal.at.returns-in-Found c).In-Found in
-    let s = (goal.at.returns-in-Found c).Start in
-    let q = (goal.at.returns-in-Found c).After-make_list-found in
+pub returns-in-Ok : goal.returns-in-Ok
+returns-in-Ok c =
+    let p = (goal.at.returns-in-Ok c).In-Ok in
+    let s = (goal.at.returns-in-Ok c).Start in
+    let q = (goal.at.returns-in-Ok c).After-make_list-found in
     let x = c.test_listed in
     let at : Listing = listing_in c.args.n (numbers p) c.make_list-found.new.list c.make_list-found.new.group in record {
       kept = window-promise (sent s) (chain s) (areas s)
