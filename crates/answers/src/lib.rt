@@ -60,7 +60,8 @@ pub fn put_byte(area: &mut [u8], at: usize, b: u8) -> usize
     put_text(area, at, &text)
 }
 
-// Writes a number in decimal: the digits of its tenth part, and the last one.
+// Writes a number in decimal: the digits of its tenth part, and the last one. This and what follows are no `Display`:
+// the text goes into an area that a caller lends, with no heap, and `WroteIn` says where.
 pub fn put_natural(area: &mut [u8], at: usize, x: u64) -> usize
     ensures wrote { WroteIn area at result (decimal x) }
 {

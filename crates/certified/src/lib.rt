@@ -2,7 +2,7 @@
 // `basis` are the generators that coefficients are for; with none it is the completion, and nothing is noted.
 #![tactic(auto)]
 
-ghost use Rattle.std.specs.Prelude.{◌≡◌, ◌+◌, ◌*◌, ◌/◌, ◌≤◌, ◌<◌, length};
+ghost use Rattle.std.specs.Prelude.{◌≡◌, ◌+◌, ◌*◌, ◌≤◌, ◌<◌, length};
 ghost use Rattle.completion.specs.Machine.{Admissible, Areas, Ready};
 ghost use Rattle.reduction.specs.Areas.{sequences_in};
 ghost use Rattle.certified.specs.Noting.{CertifiedTo, FirstStored, GeneratorNoted, Limited, Notable};

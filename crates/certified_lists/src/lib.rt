@@ -1,7 +1,7 @@
 // The second List call: a list with the coefficients of its rows (Specification 1.1 and 3.7).
 #![tactic(auto)]
 
-ghost use Rattle.std.specs.Prelude.{◌≡◌, ◌*◌, ◌/◌, ◌≤◌, length, take};
+ghost use Rattle.std.specs.Prelude.{◌≡◌, ◌*◌, ◌/◌, length};
 ghost use Rattle.definitions.specs.Calls.{certified_listing};
 ghost use Rattle.vectors.specs.Areas.{sent_order};
 ghost use Rattle.certified_lists.specs.Promise.{KeepsCertified};

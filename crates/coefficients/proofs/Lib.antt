@@ -1,9 +1,10 @@
 -- Laws that the proofs of the functions on coefficients share.
-pub mod Past
 pub mod Firsts
 pub mod Numbers
 pub mod Adding
+pub mod Multiples
 pub mod Making
+pub mod Moving
 pub mod Nets
 pub mod Closing
 pub mod Blanks

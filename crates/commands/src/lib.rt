@@ -1,7 +1,7 @@
 // The commands of an order file and the numbers of their operands (Specification 8.1).
 #![tactic(auto)]
 
-ghost use Rattle.std.specs.Prelude.{◌≡◌, ◌+◌, ◌≤◌, ◌<◌, ◌^◌, length};
+ghost use Rattle.std.specs.Prelude.{◌≡◌, ◌+◌, ◌≤◌, ◌<◌, length};
 ghost use Rattle.definitions.specs.Limits.{cells, generator_limit};
 ghost use Rattle.commands.specs.Commands.{behind, command_at, code_of, operands_of, width_of};
 ghost use Rattle.commands.specs.Decode.{byte_at, short_at, word_at};
@@ -27,7 +27,8 @@ pub enum Reading {
     Past,
 }
 
-// The bytes of the commands.
+// The bytes of the commands. A rule names a kind by its byte: an enum of kinds would have the eight cases of `Command`
+// again, without their offsets.
 pub const END: usize = 0;
 
 pub const SIZE: usize = 1;

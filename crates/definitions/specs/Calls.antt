@@ -193,8 +193,12 @@ unfoldable pub check_end : (group_size rows : ℕ) (table : List Exchange) → F
 check_end group_size rows table (Err r) =
     record { answer = refused r.number r.place; group = filled 0 group_size [] }
 check_end group_size rows table no_fault =
-    record { answer = accepted (Passed rows (sum_count (length table) rows)); group = filled 0 group_size (concat table) }
+    record {
+      answer = accepted (Passed rows (sum_count (length table) rows));
+      group = filled 0 group_size (concat table);
+    }
 
 unfoldable pub check_call : Order → (rows coefficients : List ℤ) (group_size : ℕ) → CheckEnd
 check_call order rows coefficients group_size =
-    check_end group_size (length rows / order.n) (table_of order group_size) (check_fault order rows coefficients group_size)
+    check_end group_size (length rows / order.n) (table_of order group_size)
+    (check_fault order rows coefficients group_size)

@@ -110,7 +110,8 @@ own_list order group_size = list_call order (half order.n) group_size
 
 -- the part is what that List gives: its counts or its refusal, and its list area
 pub record OwnEnd (order : Order) (group_size : ℕ) (part : Part) : Type 0 where
-  pub moves : (rows members stored sums : ℕ) → (own_list order group_size).answer ≡ accepted (answers.Moves rows members stored sums)
+  pub moves : (rows members stored sums : ℕ)
+      → (own_list order group_size).answer ≡ accepted (answers.Moves rows members stored sums)
       → part.ending ≡ accepted (Moves rows members stored sums)
   pub refused : (number place : ℕ) → (own_list order group_size).answer ≡ refused number place
       → part.ending ≡ refused number place
@@ -140,10 +141,12 @@ pub record SameShape (order order' : Order) : Type 0 where
 -- an order, with `count` steps that name it, beside another; `part` is its part beside any other
 pub record PartKept (order other : Order) (list_size group_size count : ℕ) (part : Order → Part) : Type 0 where
   -- but for the shared 5 and 6 and a differing exchange, once its last sum is tried, its part is its own
-  pub own : shared_fault order other list_size ≡ no_fault → difference_fault order other ≡ no_fault → Over (part other).ending
+  pub own : shared_fault order other list_size ≡ no_fault → difference_fault order other ≡ no_fault
+      → Over (part other).ending
       → OwnEnd order group_size (part other)
   -- so it is with a fault of its own up to 9, whatever exchanges the other has
-  pub early : (number place : ℕ) → shared_fault order other list_size ≡ no_fault → own_fault order group_size ≡ fault_at number place
+  pub early : (number place : ℕ) → shared_fault order other list_size ≡ no_fault
+      → own_fault order group_size ≡ fault_at number place
       → OwnEnd order group_size (part other)
   pub accepted : (rows members stored sums : ℕ) → (part other).ending ≡ accepted (Moves rows members stored sums)
       → PartAccepted order group_size (part other)

@@ -67,15 +67,20 @@ unfoldable pub plan_samples : List PlanSample
 unfolding line
 plan_samples =
     -- P55: three steps; the first two take the second row, which gains more than the first
-    line three (steep 10) (room_of 12 6 3) (accepted (Cheapest 3 3 1 3 12)) three_list (1 ∷ 2 ∷ 3 ∷ []) (+ 0 ∷ + 2 ∷ + 1 ∷ [])
+    line three (steep 10) (room_of 12 6 3) (accepted (Cheapest 3 3 1 3 12))
+    three_list (1 ∷ 2 ∷ 3 ∷ []) (+ 0 ∷ + 2 ∷ + 1 ∷ [])
     -- P56: two steps, and an image that gains 2 is left; 2, 2 and 2 are the larger parts of the cells
-    ∷ line three (steep 2) (room_of 12 6 3) (accepted (Spent 2 12 3 1 3 12)) three_list (1 ∷ 2 ∷ 3 ∷ []) (+ 1 ∷ + 2 ∷ + 0 ∷ [])
+    ∷ line three (steep 2) (room_of 12 6 3) (accepted (Spent 2 12 3 1 3 12))
+    three_list (1 ∷ 2 ∷ 3 ∷ []) (+ 1 ∷ + 2 ∷ + 0 ∷ [])
     -- P57: the budget ends with the last step
-    ∷ line three (steep 3) (room_of 12 6 3) (accepted (Cheapest 3 3 1 3 12)) three_list (1 ∷ 2 ∷ 3 ∷ []) (+ 0 ∷ + 2 ∷ + 1 ∷ [])
+    ∷ line three (steep 3) (room_of 12 6 3) (accepted (Cheapest 3 3 1 3 12))
+    three_list (1 ∷ 2 ∷ 3 ∷ []) (+ 0 ∷ + 2 ∷ + 1 ∷ [])
     -- P58: two images gain 1, and the earlier is taken
-    ∷ line three (even 2) (room_of 9 3 3) (accepted (Cheapest 1 3 1 3 12)) three_list (1 ∷ 2 ∷ 3 ∷ []) (+ 0 ∷ + 1 ∷ + 2 ∷ [])
+    ∷ line three (even 2) (room_of 9 3 3) (accepted (Cheapest 1 3 1 3 12))
+    three_list (1 ∷ 2 ∷ 3 ∷ []) (+ 0 ∷ + 1 ∷ + 2 ∷ [])
     -- P59: .. unless it passes an upper bound
-    ∷ line three (even 1) (room_of 9 3 3) (accepted (Cheapest 1 3 1 3 12)) three_list (1 ∷ 2 ∷ 3 ∷ []) (+ 0 ∷ + 2 ∷ + 1 ∷ [])
+    ∷ line three (even 1) (room_of 9 3 3) (accepted (Cheapest 1 3 1 3 12))
+    three_list (1 ∷ 2 ∷ 3 ∷ []) (+ 0 ∷ + 2 ∷ + 1 ∷ [])
     -- P60: a distance bound past 32 bits
     ∷ line (order_of 2 (+ 2 ∷ − 2 ∷ []) (2 ∷ 1 ∷ []) [])
     (problem_of (+ 1_000_000 ∷ + 0 ∷ []) (+ 1_000_000 ∷ + 1_000_000 ∷ []) (+ 1_000 ∷ − 1_000 ∷ []) 1)

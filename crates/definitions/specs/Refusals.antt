@@ -23,9 +23,11 @@ use Rattle.definitions.specs.Lent.{whole_rows, whole_rows_up_to, chunks}
 abbrev pub Outcome : (A : Type 0) → Type 0
 Outcome A = Result A Refusal
 
+-- what was found
 pattern abbrev pub accepted : {A : Type 0} → A → Outcome A
 accepted found = Ok found
 
+-- a refusal
 abbrev pub refused : {A : Type 0} → (number place : ℕ) → Outcome A
 refused number place = Err (record { number = number; place = place })
 
@@ -33,9 +35,11 @@ refused number place = Err (record { number = number; place = place })
 abbrev pub Fault : Type 0
 Fault = Outcome ⊤
 
+-- the test is not met
 pattern abbrev pub no_fault : Fault
 no_fault = Ok tt
 
+-- it is met at a place
 abbrev pub fault_at : (number place : ℕ) → Fault
 fault_at number place = refused number place
 

@@ -96,7 +96,9 @@ samples =
     -- P3: (1,−1,0), (0,1,−1)
     ∷ record {
       call = list (order_of 3 p3 [] []) list_limit;
-      end = moves 3 (accepted (Moves 3 1 3 12)) (+ 1 ∷ + 0 ∷ − 1 ∷ + 1 ∷ − 1 ∷ + 0 ∷ + 0 ∷ + 1 ∷ − 1 ∷ []) (1 ∷ 2 ∷ 3 ∷ []);
+      end =
+          moves 3 (accepted (Moves 3 1 3 12)) (+ 1 ∷ + 0 ∷ − 1 ∷ + 1 ∷ − 1 ∷ + 0 ∷ + 0 ∷ + 1 ∷ − 1 ∷ [])
+          (1 ∷ 2 ∷ 3 ∷ []);
     }
     -- P4: the order of the sample file
     ∷ record {
@@ -148,7 +150,8 @@ samples =
     ∷ record {
       call = list p15 list_limit;
       end =
-          moves 2 (accepted (Moves 5 1 5 30)) (+ 2 ∷ − 2 ∷ + 3 ∷ + 0 ∷ + 1 ∷ + 2 ∷ + 1 ∷ − 4 ∷ + 0 ∷ + 6 ∷ []) (1 ∷ 2 ∷ []);
+          moves 2 (accepted (Moves 5 1 5 30)) (+ 2 ∷ − 2 ∷ + 3 ∷ + 0 ∷ + 1 ∷ + 2 ∷ + 1 ∷ − 4 ∷ + 0 ∷ + 6 ∷ [])
+          (1 ∷ 2 ∷ []);
     }
     -- P16: Check P15's rows by weight: (3,0), (1,2), (2,−2), (1,−4), (0,6), coefficients 0 1, −1 1, 1 0, 2 −1, −3 2
     ∷ record {

@@ -173,7 +173,13 @@ window_refused room number place rows =
 unfoldable pub window_answered : (n : ℕ) → Room → Listing → (rows : List (List ℤ)) → WindowEnd
 window_answered n room found rows =
     record {
-      answer = accepted (record { records = (length rows); rows = (length found.rows); members = (length found.table); stored = found.stored; sums = found.sums });
+      answer = accepted (record {
+        records = length rows;
+        rows = length found.rows;
+        members = length found.table;
+        stored = found.stored;
+        sums = found.sums;
+      });
       list = filled (pos 0) room.list (numbers_of n found.rows);
       group = filled 0 room.group (concat found.table);
       answers = filled (pos 0) room.answers (concat rows);

@@ -1,8 +1,9 @@
 // What the calls answer, and refusals. What each call answers, for every input, is defined in specs/.
 #![tactic(auto)]
 
-// A refusal: its number in the table of refusals, and its place (Specification 7). The number is no enum: texts, C results
-// and promises name a refusal by it (`refused_text`, `refusal_of`, `Reported`), and an enum would need that table again.
+// A refusal: its number in the table of refusals, and its place (Specification 7). The number is no enum: texts, C
+// results and promises name a refusal by it (`refused_text`, `refusal_of`, `Reported`); an enum would need that table
+// again.
 #[derive(Clone, Copy)]
 pub struct Refusal {
     pub number: u64,

@@ -20,7 +20,8 @@ answers now before = record { now = now; before = before }
 
 abbrev pub listed : Order → (list_size group_size : ℕ) → Answers
 listed order list_size group_size =
-    answers (list_call order list_size group_size).answer (list_call_within limit_before order list_size group_size).answer
+    answers (list_call order list_size group_size).answer
+    (list_call_within limit_before order list_size group_size).answer
 
 abbrev pub checked : Order → (rows coefficients : List ℤ) (group_size : ℕ) → Answers
 checked order rows coefficients group_size =

@@ -39,7 +39,8 @@ is_image_due c = ltb c.images (c.exchanges * c.generators)
 abbrev pub may_stand : Service → (due : Bool) → Phase → (code : ℕ) → Bool
 may_stand service due Empty code = eqb code size_code
 may_stand service due Generators code = eqb code generator_code || (eqb code exchange_code || may_close service code)
-may_stand service due Exchanges code = (due && eqb code image_code) || (eqb code exchange_code || may_close service code)
+may_stand service due Exchanges code =
+    (due && eqb code image_code) || (eqb code exchange_code || may_close service code)
 may_stand service due Images code = if due then eqb code image_code else may_close service code
 may_stand service due Vectors code = eqb code end_code
 may_stand service due Rows code = eqb code coefficients_code

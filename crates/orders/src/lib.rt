@@ -55,7 +55,8 @@ struct Progress {
     counts: Counts,
 }
 
-// One command of the scan: the scan goes on, or it is over.
+// One command of the scan: the scan goes on, or it is over. No `ControlFlow`: the definition `step_of` is by these
+// cases.
 #[derive(Clone, Copy)]
 enum Step {
     Next(Progress),

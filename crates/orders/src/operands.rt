@@ -109,6 +109,7 @@ fn read<T: Number>(order: &[u8], c: Counts, kind: Kind, area: &mut [T])
 {
     let mut at = 0;
     let mut filled = 0;
+    // Not a `for`: the length of a command decides where the next one is.
     while let Reading::Known(command) = command_at(order, at) {
         filled = take(order, command, kind, filled, area);
         at = behind(order, command, c.cells, c.generators);
@@ -129,6 +130,8 @@ pub fn read_exchanges(order: &[u8], c: Counts, area: &mut [u8])
     };
     read(order, c, kind, area);
 }
+
+// This and the next five are calls of `read`, each with the command that it reads and a contract of its own.
 
 // The coefficients of the images, into an area.
 #[tactic(auto, unfolding(crate::specs::Operands::images_in))]

@@ -146,7 +146,8 @@ fn even(name: &[u8], last: i32) {
     of_three(name, &start, &upper, &costs, 7, &mut list, &mut group);
 }
 
-// A plan by the pair without exchanges, with one list row and one group row.
+// A plan by the pair without exchanges, with one list row and one group row. (Each
+// program has its own such function, over its own call.)
 fn of_pair(name: &[u8], start: &[i32], upper: &[i32], costs: &[i32], budget: usize, row: &mut [i32])
     requires some { 1 ≤ length row.old }
 {

@@ -18,7 +18,8 @@ use Rattle.descents.specs.declared.Descent.{Descent}
 use Rattle.plans.specs.Promise.{room_in}
 
 -- the search ended as was due: its answer and its areas
-pub record PlanEnds (due : PlanEnd) (answer : Outcome Planned) (list : List ℤ) (group : List ℕ) (plan : List ℤ) : Type 0 where
+pub record PlanEnds (due : PlanEnd) (answer : Outcome Planned) (list : List ℤ) (group : List ℕ) (plan : List ℤ)
+    : Type 0 where
   pub answer_is : answer ≡ due.answer
   pub list_holds : list ≡ due.list
   pub group_holds : group ≡ due.group

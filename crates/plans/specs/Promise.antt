@@ -25,8 +25,8 @@ pub record PlanAccepted (order : Order) (problem : Problem) (list : List ℤ) (g
   pub attained : Attainable order problem (padded plan)
 
 -- no plan within the bounds that differs from the start by a lattice vector is cheaper
-pub record CheapestReached (order : Order) (problem : Problem) (answer : Outcome Planned) (list : List ℤ) (group : List ℕ)
-    (plan : List ℤ) : Type 0 where
+pub record CheapestReached (order : Order) (problem : Problem) (answer : Outcome Planned) (list : List ℤ)
+    (group : List ℕ) (plan : List ℤ) : Type 0 where
   pub accepted : PlanAccepted order problem list group plan
   pub steps : ℕ
   pub few : steps ≤ problem.budget
@@ -61,7 +61,8 @@ pub record PlanPromise (order : Order) (problem : Problem) (room : PlanRoom) (an
   pub plan_holds : plan ≡ (plan_call order problem room).plan
   pub cheapest : (steps rows members stored sums : ℕ) → answer ≡ accepted (Cheapest steps rows members stored sums)
       → CheapestReached order problem answer list group plan
-  pub spent : (steps bound rows members stored sums : ℕ) → answer ≡ accepted (Spent steps bound rows members stored sums)
+  pub spent : (steps bound rows members stored sums : ℕ)
+      → answer ≡ accepted (Spent steps bound rows members stored sums)
       → BudgetSpent order problem answer list group plan
   pub refused : (number place : ℕ) → answer ≡ refused number place → PlanZero list group plan
 

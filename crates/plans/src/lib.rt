@@ -22,7 +22,8 @@ use vectors::{clear, load, store};
 // The prices of images for which there is room; another is computed anew whenever it is asked for.
 const PRICES: usize = 8_192;
 
-// A refusal: zeros in the three areas (Specification 7.4).
+// A refusal: zeros in the three areas (Specification 7.4). Not one function with `refuse_split` of `moves`: what each
+// ends with is a definition of its own.
 fn refuse(
     refusal: Refusal,
     list: &mut [i32],

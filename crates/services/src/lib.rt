@@ -148,7 +148,8 @@ fn split_order(
     )
 }
 
-// Split on an accepted file: its answer, and its pieces in the pieces area (Specification 1.2).
+// Split on an accepted file: its answer, and its pieces in the pieces area (Specification 1.2). One function with
+// `list_file` would take the call as a closure, and repeat the contract of each.
 fn split_file(order: &[u8], c: Counts, pieces: &mut [i32]) -> Result<Answer, Refusal>
     requires accepted { scan_of Service.Split order.now ≡ Ok c }
     requires room { length pieces.old ≡ pieces_size }

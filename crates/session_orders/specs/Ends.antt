@@ -47,7 +47,8 @@ pub record OrderEnds (n : ℕ) (result : Result) (list : List ℤ) (r : Outcome 
   pub holds : list ≡ half_of n result
 
 -- .. an order that met no test, after `count` steps, with the table in the group area
-abbrev pub EndsIn : Shape → (generators : Lent ℤ) (list : LentMut ℤ) (table : Lent ℕ) (count : ℕ) (r : Outcome Ending) → Type 0
+abbrev pub EndsIn : Shape → (generators : Lent ℤ) (list : LentMut ℤ) (table : Lent ℕ) (count : ℕ)
+    (r : Outcome Ending) → Type 0
 EndsIn shape generators list table count r =
     let sequences = sequences_in shape table.entry.now in
     let start = begun sequences session_rows (vectors_of shape.n generators.entry.now) in

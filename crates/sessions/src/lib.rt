@@ -98,7 +98,7 @@ fn is_left(first: Result<(), Refusal>, second: Result<(), Refusal>) -> bool
 }
 
 // Where an order is left: the number of members of the group, and its table in its area; 0 where it has more than the
-// area has rows for.
+// area has rows for. No option: the shape of both orders takes the number as it is, and 10 is of each order.
 fn build_table(left: bool, n: usize, exchanges: &[u8], group: &mut [u8]) -> usize
     requires valid { left ≡ true → Exchangeable n exchanges.now }
     ensures built { let size = length group.old in

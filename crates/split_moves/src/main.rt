@@ -1,4 +1,5 @@
 // Reads an order file from standard input, and writes the answer of Split to standard output (Specification 1.3).
+// The three programs differ in the call alone: one function for them would be a crate more for these six lines.
 #![tactic(auto)]
 
 use services::{ANSWER_BYTES, ORDER_BYTES};

@@ -1,7 +1,7 @@
 // Vectors: an array of CELLS numbers by value, and rows of lent areas (Specification 2.1).
 #![tactic(auto)]
 
-ghost use Rattle.std.specs.Prelude.{◌≡◌, true, not, [], ◌+◌, ◌/◌, ◌≤◌, ◌<◌, pos, nat_abs, ◌*ℤ◌, length, get_or, take, drop};
+ghost use Rattle.std.specs.Prelude.{◌≡◌, true, not, [], ◌+◌, ◌/◌, ◌≤◌, ◌<◌, nat_abs, ◌*ℤ◌, length, get_or, take, drop};
 ghost use Rattle.std.specs.Int.Signed.{non_neg};
 ghost use Rattle.std.proofs.Math.Seq.{paste};
 ghost use Rattle.definitions.specs.Limits.{cells};
@@ -135,6 +135,7 @@ pub fn equal(u: [i32; CELLS], v: [i32; CELLS]) -> bool
 pub fn greater(u: [i32; CELLS], v: [i32; CELLS]) -> bool
     ensures told { result ≡ greater u v }
 {
+    // Not `u > v`: that takes five times as many instructions, and every image is compared.
     for i in 0..CELLS {
         if u[i] != v[i] {
             return u[i] > v[i];

@@ -76,7 +76,8 @@ fn window_in(
     show_group(&*group);
 }
 
-// A window over a run of the pair without exchanges, with one list row and one group row.
+// A window over a run of the pair without exchanges, with one list row and one group row. (Each
+// program has its own such function, over its own call.)
 fn of_pair(
     name: &[u8],
     start: &[i32],
