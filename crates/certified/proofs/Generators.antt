@@ -81,7 +81,7 @@ module _ {shape : Shape} {table : List ℕ} {basis : List ℤ} (closed : ClosedB
   unfolding zeros
   no-numbers = take-blank m generator_limit closed.is_basis.few
 
-  counted-alone : plus (scale (pos 1) (counted_as generators v)) (take m blank) ≡ counted_as generators v
+  pub counted-alone : plus (scale (pos 1) (counted_as generators v)) (take m blank) ≡ counted_as generators v
   counted-alone =
       ap (λ (l : List ℤ). plus (scale (pos 1) (counted_as generators v)) l) no-numbers
       ∙ ap (λ (l : List ℤ). plus l (zeros m)) (scale_one (counted_as generators v))

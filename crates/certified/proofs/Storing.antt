@@ -183,10 +183,10 @@ module _ {shape : Shape} {table : List ℕ} {list : List ℤ} {marks keys : List
         room = rw (e, summed-is ∙ made) room;
       }
 
-    abbrev rest_cs : List ℤ
+    abbrev pub rest_cs : List ℤ
     rest_cs = remainder_coefficients extent table list basis coefficients sum sum_cs
 
-    rest-light : weight rest_cs ≤ widest
+    pub rest-light : weight rest_cs ≤ widest
     unfolding certified_remainder
     rest-light =
         let known = certified_orbits generators G (certified_rows rows noted) in

@@ -90,7 +90,7 @@ module _ (costs v : Vector) (priced : within cost_limit costs ≡ true) (bounded
     product_is : product j ≡ cell_at costs j *ℤ cell_at v j
     product_is = ap₂ ◌*ℤ◌ (wide_is (cell_at costs j) (omega (arith, cost-at))) (wide_is (cell_at v j) entry_at)
 
-    product-fits : SFits w64 (product j)
+    pub product-fits : SFits w64 (product j)
     product-fits =
         let h = term-small (cell_at costs j) (cell_at v j) cost-at entry_at in
         rw product_is (fits term_limit (cell_at costs j *ℤ cell_at v j) h (omega arith))

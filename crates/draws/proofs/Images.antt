@@ -96,12 +96,12 @@ module _ {extent : Extent} {list : List ℤ} {group : List ℕ} (listed : Listed
   row_inside = omega (arith, row-end (nat_abs draw.row) extent.k extent.shape.n row_below, listed.area.holds)
 
   -- the row as code loads it
-  row_loaded : padded (take extent.shape.n (drop (nat_abs draw.row * extent.shape.n) list))
+  pub row_loaded : padded (take extent.shape.n (drop (nat_abs draw.row * extent.shape.n) list))
       ≡ get_or (rows_in extent list) (nat_abs draw.row) []
   row_loaded = row_at extent.shape.n extent.k (nat_abs draw.row) list row_below
 
   -- it has headroom, and so has its image
-  plain-within : within headroom (plain_image extent list group draw) ≡ true
+  pub plain-within : within headroom (plain_image extent list group draw) ≡ true
   plain-within =
       let row =
       row_within headroom list (nat_abs draw.row * extent.shape.n) extent.shape.n listed.area.limited in

@@ -138,7 +138,15 @@ module _ (view : View) (extent : Extent) (list : List ℤ) (group : List ℕ) (s
       unfolding visits
       run-refused e = ran answers uses i f current runs (rw (next-draw i h, ← read, refused table rows current draw e))
 
-      -- record i is drawn
+      -- record i is drawn, to a contingency table
+      module _ {next : Vector} (e : Some next ≡ drawn table rows current draw) where
+        pub sum-entries : is_contingency next ≡ true
+        unfolding is_drawable
+        sum-entries =
+            let fit = taken table rows current draw e in
+            rw fit.sum (and-true-right (names_image table rows draw) (is_contingency (plus current (drawn_image table rows draw))) fit.drawable)
+
+      -- with a list and a table in their areas
       module _ {next : Vector} (e : Some next ≡ drawn table rows current draw) (listed : Listed extent list group) where
         abbrev fit : Taken table rows current draw next
         fit = taken table rows current draw e
@@ -151,7 +159,7 @@ module _ (view : View) (extent : Extent) (list : List ℤ) (group : List ℕ) (s
         row_is = ap (λ (draw : Draw). nat_abs draw.row) (read ∙ draw-from records i h)
 
         -- its row is one of the list's
-        row_named : (j : ℕ) → j ≤ i → row_in records j < list_limit
+        pub row_named : (j : ℕ) → j ≤ i → row_in records j < list_limit
         row_named j l = go (eqb j i) refl
           where
             go : (b : Bool) → eqb j i ≡ b → row_in records j < list_limit
@@ -165,10 +173,6 @@ module _ (view : View) (extent : Extent) (list : List ℤ) (group : List ℕ) (s
         pub sum-filled : view.n ≡ extent.shape.n → Filled view.n next
         sum-filled same =
             rw fit.sum (filled-plus view.n current (drawn_image table rows draw) runs.filled (rw same (image-filled listed draw names)))
-
-        sum-entries : is_contingency next ≡ true
-        unfolding is_drawable
-        sum-entries = rw fit.sum (and-true-right (names_image table rows draw) (is_contingency (plus current (drawn_image table rows draw))) fit.drawable)
 
         -- there is room for its answer row
         room : Rows view answers (suc i)
@@ -218,7 +222,7 @@ module _ (view : View) (extent : Extent) (list : List ℤ) (group : List ℕ) (s
             roomy = rw long runs.roomy;
             shown = shown;
             filled = sum-filled same;
-            entries = sum-entries;
+            entries = sum-entries e;
             named = λ j l. row_named j (omega (arith, l));
             visited =
                 runs.visited ∙ ap (λ (l : List Visit). before ++ l) left

@@ -28,7 +28,7 @@ same-no : {r x : ℕ} → (r ≡ x → ⊥) → same r x ≡ 0
 same-no {r} {x} e = rw (ne_eqb r x e)
 
 -- 1 if a number is zero, else 0
-same-zero : (n : ℕ) → same n 0 ≡ 1 - n
+pub same-zero : (n : ℕ) → same n 0 ≡ 1 - n
 same-zero zero = refl
 same-zero (suc n) = rw (eqb-suc-zero n) (omega arith)
 
@@ -124,24 +124,24 @@ module _ {x : ℕ} {rest area : List ℕ} {count : ℕ} (small : x < list_limit)
   first-uses = omega (arith, t.used x small, uses-first x x rest, same-yes {r = x} refl)
 
   -- the first number has a use
-  leaving-some : 1 ≤ get_or area x 0
+  pub leaving-some : 1 ≤ get_or area x 0
   leaving-some = omega (arith, first-uses)
 
   only : same (get_or area x 0) 1 ≡ 1 - uses x rest
   only = rw (first-uses, eqb-suc-suc (uses x rest) 0) (same-zero (uses x rest))
 
   -- if that is its only one, it is counted
-  leaving-less : same (get_or area x 0) 1 ≤ count
+  pub leaving-less : same (get_or area x 0) 1 ≤ count
   leaving-less = omega (arith, only, t.counted, different-first x rest)
 
   -- it leaves
-  leaving : Tallied rest (set area x (get_or area x 0 - 1)) (count - same (get_or area x 0) 1)
+  pub leaving : Tallied rest (set area x (get_or area x 0 - 1)) (count - same (get_or area x 0) 1)
   leaving =
       stored t small (omega (arith, first-uses)) (λ r e. omega (arith, uses-first r x rest, same-no e))
       (omega (arith, only, t.counted, different-first x rest))
 
 -- a number comes in behind
-entering : {x : ℕ} {rest area : List ℕ} {count : ℕ} → x < list_limit → Tallied rest area count
+pub entering : {x : ℕ} {rest area : List ℕ} {count : ℕ} → x < list_limit → Tallied rest area count
     → Tallied (rest ++ x ∷ []) (set area x (suc (get_or area x 0))) (count + same (get_or area x 0) 0)
 entering {x} {rest} {area} {count} small t =
     stored t small (omega (arith, t.used x small, uses-last x x rest, same-yes {r = x} refl))

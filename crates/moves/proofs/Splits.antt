@@ -1,5 +1,5 @@
 -- How a Split ends, and what that promises (Specification 4 and 7.4). Assumes nothing.
-use Rattle.std.specs.declared.result.Result.TheVariants.{Err}
+use Rattle.std.specs.declared.result.Result.TheVariants.{Ok, Err}
 use Rattle.definitions.specs.Refusals.{Fault, no_fault}
 use mathlib.Core.Path.{◌≡◌, refl, sym, ◌∙◌, ap, ap₂, subst}
 use mathlib.Core.Logic.{◌↔◌}
@@ -22,7 +22,7 @@ use Rattle.definitions.specs.Completion.{Completion, completed, final_rows, runn
 use Rattle.definitions.specs.Split.{Image, Splitting, placed_orbits, splitting}
 use Rattle.definitions.specs.Lent.{Order, filled, generators_of, list_rows, numbers_of, table_of, whole_rows}
 use Rattle.definitions.specs.Refusals.{Outcome, accepted, refused, cells_fault, fault_where, first_fault, is_past, split_fault, split_size_fault, unless_fault}
-use Rattle.definitions.specs.Calls.{Listing, Parts, list_call, list_end, listing, listing_of, parts, parts_of, split_call, split_end}
+use Rattle.definitions.specs.Calls.{ListEnd, Listing, Parts, SplitEnd, list_call, list_end, listing, listing_of, parts, parts_of, split_call, split_end}
 use Rattle.theory.proofs.Lists.{chunks-length}
 use Rattle.theory.proofs.Members.{Each, each_nil, each_append, each_from, each-head, each_tail}
 use Rattle.theory.proofs.Bounds.{Within, each_within, within-each, within_more}
@@ -50,6 +50,25 @@ pub ends_refused : (n list_size group_size pieces_size : ℕ) {due : Outcome Par
     → SplitEnds (split_end 0 list_size group_size pieces_size (Err refusal)) answer list group pieces → SplitEnds (split_end n list_size group_size pieces_size due) answer list group pieces
 unfolding split_end
 ends_refused n list_size group_size pieces_size e E = rw (← e) E
+
+-- a List that was refused: its answer is that of the Split
+pub ends-unlisted : {order : Order} {list_size group_size : ℕ} (pieces_size : ℕ) {answer : Outcome Answer} {list : List ℤ} {group : List ℕ} {pieces : List ℤ} (vector : List ℤ)
+    → ListPromise order list_size group_size answer list group → ((rows g stored sums : ℕ) → answer ≡ accepted (Moves rows g stored sums) → ⊥)
+    → pieces ≡ filled (pos 0) pieces_size [] → SplitEnds (split_end order.n list_size group_size pieces_size (parts_of vector pieces_size (listing order list_size group_size))) answer list group pieces
+unfolding list_call list_end split_end parts_of
+ends-unlisted {order} {list_size} {group_size} pieces_size {answer} {list} {group} {pieces} vector P other cleared = go (listing order list_size group_size) refl
+  where
+    at : Outcome Listing → ListEnd
+    at o = list_end order.n list_size group_size o
+
+    go : (o : Outcome Listing) → listing order list_size group_size ≡ o → SplitEnds (split_end order.n list_size group_size pieces_size (parts_of vector pieces_size (listing order list_size group_size))) answer list group pieces
+    go (Err r) q = subst (λ (d : SplitEnd). SplitEnds d answer list group pieces) (sym (ap (λ (o : Outcome Listing). split_end order.n list_size group_size pieces_size (parts_of vector pieces_size o)) q)) (record {
+      answers = P.answers ∙ ap (λ (o : Outcome Listing). (at o).answer) q;
+      list_holds = P.list_holds ∙ ap (λ (o : Outcome Listing). (at o).list) q;
+      group_holds = P.group_holds ∙ ap (λ (o : Outcome Listing). (at o).group) q;
+      pieces_holds = cleared;
+    })
+    go (Ok found) q = absurd (other _ _ _ _ (P.answers ∙ ap (λ (o : Outcome Listing). (at o).answer) q))
 
 -- the vector to split, read from its area
 pub vector-read : (n : ℕ) (vector : List ℤ) → length vector ≡ n → padded (take n (drop 0 vector)) ≡ padded vector

@@ -24,28 +24,38 @@ use Rattle.orders.specs.Walk.{Reader, numbers_in, kind_numbers}
 use Rattle.orders.proofs.Commands.{Accepted}
 
 -- the part of an order that starts at an offset, as code borrows it, is the whole rest of the order
-part-whole : (order : List ℕ) (from : ℕ) → take (length order - from) (drop from order) ≡ drop from order
+pub part-whole : (order : List ℕ) (from : ℕ) → take (length order - from) (drop from order) ≡ drop from order
 part-whole order from = take_all (length order - from) (drop from order) (omega (arith, length-drop from order))
 
 -- `count` numbers of a part
 numbers-count : {A : Type 0} (number : ℕ → A) (count : ℕ) → length (map number (range 0 count)) ≡ count
 numbers-count number count = length-map (range 0 count) number ∙ range_length 0 count
 
+-- a command with another byte has none
+pub numbers-none : {A : Type 0} (code : ℕ) (decode : List ℕ → List A) (order : List ℕ) (x : Command) → (code_of x ≡ code → ⊥)
+    → command_numbers code decode order x ≡ []
+unfolding command_numbers
+numbers-none code decode order x e = rw (ne_eqb (code_of x) code e)
+
+-- a command with the byte has those of the part that starts at its operands
+pub numbers-here : {A : Type 0} (code : ℕ) (decode : List ℕ → List A) (order : List ℕ) (x : Command) → code_of x ≡ code
+    → command_numbers code decode order x ≡ decode (drop (operands_of x) order)
+unfolding command_numbers
+numbers-here code decode order x e = rw (eq-eqb (code_of x) code e)
+
 -- the numbers of a command of a kind
 module _ {A : Type 0} (number : Reader A) (kind : Kind) (order : List ℕ) (x : Command) where
   -- another command has none
-  pub numbers-none : (code_of x ≡ kind.code → ⊥) → kind_numbers number kind order x ≡ []
-  unfolding command_numbers
-  numbers-none e = rw (ne_eqb (code_of x) kind.code e)
+  pub kind-none : (code_of x ≡ kind.code → ⊥) → kind_numbers number kind order x ≡ []
+  kind-none e = numbers-none kind.code (numbers_in number kind) order x e
 
   module _ (e : code_of x ≡ kind.code) where
-    numbers-here : kind_numbers number kind order x ≡ numbers_in number kind (drop (operands_of x) order)
-    unfolding command_numbers
-    numbers-here = rw (eq-eqb (code_of x) kind.code e)
+    kind-here : kind_numbers number kind order x ≡ numbers_in number kind (drop (operands_of x) order)
+    kind-here = numbers-here kind.code (numbers_in number kind) order x e
 
     -- how many
     pub numbers-long : length (kind_numbers number kind order x) ≡ kind.count
-    numbers-long = ap length numbers-here ∙ numbers-count (number kind.size (drop (operands_of x) order)) kind.count
+    numbers-long = ap length kind-here ∙ numbers-count (number kind.size (drop (operands_of x) order)) kind.count
 
     -- number j, as it is read in the part that starts at the operands
     pub number-at : (p j : ℕ) {z : A} → p ≡ operands_of x → j < kind.count → z ≡ number kind.size (take (length order - p) (drop p order)) j
@@ -56,7 +66,7 @@ module _ {A : Type 0} (number : Reader A) (kind : Kind) (order : List ℕ) (x : 
         ∙ ap (λ (l : List ℕ). number kind.size l j) (part-whole order p ∙ ap (λ (k : ℕ). drop k order) s)
         ∙ sym (ap (number kind.size part) (get_or-range 0 kind.count j 0 h ∙ (let e : 0 + j ≡ j = omega arith in e)))
         ∙ sym (get_d_map (number kind.size part) (range 0 kind.count) j 0 z (omega (arith, range_length 0 kind.count)))
-        ∙ ap (λ (l : List A). get_or l j z) (sym numbers-here)
+        ∙ ap (λ (l : List A). get_or l j z) (sym kind-here)
 
 -- the numbers of all commands with a byte
 module _ {A : Type 0} (code : ℕ) (decode : List ℕ → List A) (order : List ℕ) where

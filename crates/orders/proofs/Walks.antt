@@ -72,7 +72,7 @@ module _ {A : Type 0} {code : ℕ} {decode : List ℕ → List A} {order : List 
   filled-most = let k = w.counted in omega (arith, length-append w.done left, ap length w.all)
 
   -- the area keeps its length
-  walk-length : length total ≤ length before → length now ≡ length before
+  pub walk-length : length total ≤ length before → length now ≡ length before
   walk-length room = let k = w.counted in omega (arith, filled-most, ap length w.held, length-append w.done (drop (length w.done) before), length-drop (length w.done) before)
 
   -- no command is left

@@ -31,7 +31,7 @@ module _ (area : List ℤ) (count : ℕ) (numbers : List ℤ) where
   abbrev pasted : List ℤ
   pasted = paste area (count * piece_width) numbers piece_width
 
-  with-room : count < length area / piece_width → pasted ≡ with_numbers area count numbers
+  pub with-room : count < length area / piece_width → pasted ≡ with_numbers area count numbers
   with-room h = ap (λ (b : Bool). cond b pasted area) (sym (lt-ltb count (length area / piece_width) h))
 
 -- ---- an area that had zeros behind its numbers

@@ -37,7 +37,7 @@ below-fits x y h k = let j = go x y h in record { sfits = omega (arith, k.sfits)
     go (negsuc a) (negsuc b) h = omega (arith, h.fall)
 
 -- a row, a position and a count fit
-small-fits : {k : ℕ} → k ≤ count_limit → SFits w32 (pos k)
+pub small-fits : {k : ℕ} → k ≤ count_limit → SFits w32 (pos k)
 small-fits h = record { sfits = omega arith }
 
 -- ---- cell i

@@ -109,9 +109,12 @@ key_fits v h =
     (halves-fit (positives (negative v)) (positives v) (half-small (negative v) (omega (arith, length-negative v))) (half-small v h))
 
 -- no cell
-pub key-none : (v : Vector) → length v ≤ cells → key (drop cells v) ≡ 0
+pub key-none : (v : Vector) (i : ℕ) → length v ≤ i → 0 ≡ key (drop i v)
 unfolding key
-key-none v h = rw (drop_of_length-le v {i = cells} h)
+key-none v i h = rw (drop_of_length-le v {i = i} h)
+
+pub key-end : (v : Vector) → length v ≤ cells → key (drop cells v) ≡ 0
+key-end v h = sym (key-none v cells h)
 
 -- one cell more, in front of those from i on
 module _ (v : Vector) (i : ℕ) (some : 0 < i) (long : length v ≡ cells) (inside : i ≤ cells) where
@@ -122,4 +125,4 @@ module _ (v : Vector) (i : ℕ) (some : 0 < i) (long : length v ≡ cells) (insi
   pub cell-fits : key (drop i v) * 2 + side (cell_at v (i - 1)) < 2 ^ 64
   cell-fits = rw key-cell (key_fits (drop (i - 1) v) (omega (arith, length-drop (i - 1) v)))
 
-pub ruleset key_turn = (key-none, key-cell, cell-fits, to_z-of_z)
+pub ruleset key_turn = (key-end, key-cell, cell-fits, to_z-of_z)

@@ -1,5 +1,5 @@
 -- `images_fault` meets its contract. Assumes nothing.
-use Rattle.std.proofs.Common.{rules, ℕ, Bool, get_or, [], length, ◌+◌, ◌*◌, ◌/◌, ◌≤◌, arith, ap₂, sym, ◌∙◌}
+use Rattle.std.proofs.Common.{rules, tests, ◌≡◌, ℕ, Bool, get_or, [], length, ◌+◌, ◌*◌, ◌/◌, ◌≤◌, arith, ap₂, sym, ◌∙◌}
 use Rattle.definitions.specs.Limits.{image_limit}
 use Rattle.definitions.specs.Lent.{chunks, rows_of, vectors_of}
 use Rattle.definitions.specs.Refusals.{fault_where, images_fault, is_uncertified, sent_images}
@@ -34,8 +34,9 @@ returns c =
     let sequences = length c.args.exchanges.now / n in
     let wide = vectors-count n c.args.generators.now in
     let many = rows-count n c.args.exchanges.now in
+    let same : _ ≡ c.fault_where.result = search (rules, tests) in
     record {
-      found = c.fault_where.ensures.found (test width (sequences * width))
+      found = same ∙ c.fault_where.ensures.found (test width (sequences * width))
           (λ p b h k. let part = part-row width (sequences * width) p all h in let image = image-is generators sent sequences width p many wide h in search rules)
           ∙ ap₂ (λ (w m : ℕ). fault_where 23 m (test w m)) (sym wide) (sym (images-count generators sent ∙ ap₂ ◌*◌ many wide));
     }

@@ -4,14 +4,14 @@ use mathlib.Core.Path.{sym, ◌∙◌}
 use native.Mathlib.Omega.{arith}
 use lib.Seq.{paste-zero}
 use Rattle.orders.specs.Walk.{kind_numbers}
-use Rattle.orders.proofs.Numbers.{number-at, numbers-long, numbers-none}
+use Rattle.orders.proofs.Numbers.{kind-none, number-at, numbers-long}
 use Rattle.orders.proofs.Walks.{one-more, taken_none}
 use Rattle.orders.proofs.operands.take.Goals as goal
 
 pub returns-then-code_of-kind : goal.returns-then-code_of-kind
 returns-then-code_of-kind g c =
     let a = c.args in
-    let none = numbers-none g.T.Number.number a.kind a.order.now a.command (λ e. c.if-code_of-kind.true (c.code_of.ensures.code ∙ e)) in
+    let none = kind-none g.T.Number.number a.kind a.order.now a.command (λ e. c.if-code_of-kind.true (c.code_of.ensures.code ∙ e)) in
     record { taken = taken_none (kind_numbers g.T.Number.number a.kind a.order.now a.command) a.filled a.area.now none }
 
 pub loop-j-init : goal.loop-j-init
